@@ -9,7 +9,7 @@ ghost use Rattle.std.specs.Prelude.{◌≡◌, ◌≢◌, ◌≤◌, ◌<◌, �
 use crate::phase::begin;
 use crate::search::{finish, take_place};
 use crate::state::Pairing;
-use lists_and_numbers::Memory;
+use design_model::Memory;
 use odd_sets::{DistTable, MAX_DISTANCE, TightEdge, has};
 use slab::Slab;
 use std::alloc::Global;

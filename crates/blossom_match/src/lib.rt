@@ -16,4 +16,5 @@ mod taking;
 mod theorems;
 
 pub use matching::{Matching, Moat, Moats, Pair, Pairs, match_all};
+pub use odd_sets::DistTable;
 pub use theorems::none_costs_less;

@@ -4,7 +4,7 @@ ghost use Rattle.std.specs.Prelude.{◌≡◌, ◌%◌, IfOk};
 
 use crate::pairing::find_matches;
 use crate::taking::take_matches;
-use lists_and_numbers::{Items, Memory, Numbers};
+use design_model::{Items, Memory, Numbers};
 use odd_sets::DistTable;
 use std::alloc::Global;
 

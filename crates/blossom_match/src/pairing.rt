@@ -6,7 +6,7 @@ ghost use Rattle.std.specs.Prelude.{◌≡◌, ◌%◌, length, IfOk};
 use crate::initial_duals::initial_matching;
 use crate::phase::pair_up;
 use crate::state::Pairing;
-use lists_and_numbers::Memory;
+use design_model::Memory;
 use odd_sets::{DistTable, far_cells};
 use std::alloc::Global;
 

@@ -14,7 +14,7 @@ use crate::masks::{hide, show_from};
 use crate::outer_slacks::{add_slacks_from, begin_slacks, lower_slacks, reset};
 use crate::search::{SearchStep, expand_at, finish, grow_to, shrink_by};
 use crate::state::{Pairing, Search};
-use lists_and_numbers::Memory;
+use design_model::Memory;
 use odd_sets::{DistTable, single};
 use std::alloc::Global;
 

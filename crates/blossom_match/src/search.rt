@@ -7,7 +7,7 @@ ghost use Rattle.std.specs.Prelude.{◌≡◌, ◌≤◌, ◌<◌, ◌+◌, ℕ,
 
 use crate::outer_slacks::fold_slacks;
 use crate::state::{Pairing, Search};
-use lists_and_numbers::Memory;
+use design_model::Memory;
 use odd_sets::{DistTable, TightEdge, augment, expand, grow, shrink, single, take_match};
 use std::alloc::Global;
 

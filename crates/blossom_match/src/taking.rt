@@ -6,7 +6,7 @@ ghost use Rattle.odd_sets.specs.Slots.{matches_in, set_in, AreSets};
 ghost use Rattle.std.specs.Prelude.{◌≡◌, ◌≤◌, ◌++◌, ◌∷◌, [], ℕ, OnOk};
 
 use crate::matching::{Moat, Moats, Pair, Pairs};
-use lists_and_numbers::{Memory, Numbers};
+use design_model::{Memory, Numbers};
 use odd_sets::{Handle, Match, OpenedSet, Sets, TightEdge, open_at};
 use std::alloc::Global;
 

@@ -22,10 +22,10 @@ pub use Rattle.certificate_text.specs.ReadCertificates.{cert_of, draft_with_line
 pub use Rattle.certificate_text.specs.ReadCertificates.{pieces_at_end, with_cut}
 pub use Rattle.certificate_text.specs.declared.draft.CertDraft.{CertDraft}
 pub use Rattle.certificate_text.specs.declared.lines.CertLine.{CertLine}
-pub use Rattle.drawing_model.specs.GrowingDrawings.{and_then}
+pub use Rattle.line_graph.specs.GrowingDrawings.{and_then}
 pub use Rattle.line_graph.specs.declared.pass.Pass.{Pass}
-pub use Rattle.lists_and_numbers.proofs.CallerLemmas.{decimal_model, false_true, same_word}
-pub use Rattle.lists_and_numbers.specs.TextLines.{newline}
+pub use Rattle.design_model.proofs.ListLemmas.{decimal_model, false_true, same_word}
+pub use Rattle.design_model.specs.TextLines.{newline}
 pub use Rattle.odd_cuts.specs.Certificates.{HasCanonicalText}
 pub use Rattle.odd_cuts.specs.Packings.{IsPlainCut}
 pub use Rattle.odd_cuts.specs.declared.certificate.PieceCert.{PieceCert}

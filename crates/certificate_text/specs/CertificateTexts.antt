@@ -5,7 +5,7 @@ use Rattle.std.specs.Prelude.{ℕ, ◌+◌, List, ◌++◌, codes, decimal, if�
 use Rattle.std.specs.List.{flat_map}
 use Rattle.odd_cuts.specs.declared.certificate.PieceCert.{PieceCert}
 use Rattle.odd_cuts.specs.declared.cut.Cut.{Cut}
-use Rattle.lists_and_numbers.specs.TextLines.{newline}
+use Rattle.design_model.specs.TextLines.{newline}
 use Rattle.line_graph.specs.declared.pass.Pass.{Pass}
 
 -- The text of a pass: a space, a minus sign where it goes backwards, and the number of its line,

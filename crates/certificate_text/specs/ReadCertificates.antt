@@ -17,7 +17,7 @@ use Rattle.certificate_text.specs.CertificateLines.{parsed_cert_line}
 use Rattle.text_parts.specs.Parts.{parts_between}
 use Rattle.odd_cuts.specs.Certificates.{HasCanonicalText}
 use Rattle.certificate_text.specs.CertificateTexts.{certificate_text}
-use Rattle.drawing_model.specs.GrowingDrawings.{and_then}
+use Rattle.line_graph.specs.GrowingDrawings.{and_then}
 
 -- A piece with one more cut.
 abbrev pub with_cut : PieceCert → Cut → PieceCert

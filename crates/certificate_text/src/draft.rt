@@ -3,8 +3,8 @@ ghost use Rattle.certificate_text.specs.declared.lines.CertLine.TheVariants as l
 ghost use Rattle.std.specs.Prelude.{◌≡◌, ◌∷◌, ◌++◌, [], IfOk};
 
 use crate::lines::{CertLine, line_of};
+use design_model::Memory;
 use line_graph::Walk;
-use lists_and_numbers::Memory;
 use odd_cuts::{Cut, Cuts, PieceCert, PieceCerts};
 use std::alloc::Global;
 

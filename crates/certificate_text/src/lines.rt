@@ -4,8 +4,8 @@ ghost use Rattle.std.specs.Prelude.{◌≡◌, ◌∷◌, ◌<◌, IfOk, IfSome,
 ghost use Rattle.text_parts.specs.Parts.{words_in};
 
 use crate::words::number_in;
+use design_model::{Memory, Numbers};
 use line_graph::{Pass, Walk};
-use lists_and_numbers::{Memory, Numbers};
 use odd_cuts::Cut;
 use std::alloc::Global;
 use text_parts::{equals_text, split_first};

@@ -4,8 +4,8 @@ ghost use Rattle.odd_cuts.specs.Certificates.{HasCanonicalText};
 ghost use Rattle.std.specs.List.{flat_map};
 ghost use Rattle.std.specs.Prelude.{◌≡◌, ◌+◌, ◌++◌, ◌<◌, ◌^◌, All, IfOk, Ok, OnOk};
 
+use design_model::{Bytes, Memory, put_decimal};
 use line_graph::Pass;
-use lists_and_numbers::{Bytes, Memory, put_decimal};
 use odd_cuts::{Cert, Cut, PieceCert};
 use std::alloc::Global;
 

@@ -1,12 +1,12 @@
 ghost use Rattle.certificate_text.specs.CertificateTexts.{certificate_text};
 ghost use Rattle.certificate_text.specs.ReadCertificates.{AreFew, ReadsCert, cert_of};
 ghost use Rattle.certificate_text.specs.declared.reading.CertFault.TheVariants as fault;
-ghost use Rattle.lists_and_numbers.specs.declared.limits.TheConstants.{MAX_FILE};
+ghost use Rattle.design_model.specs.declared.limits.TheConstants.{MAX_FILE};
 ghost use Rattle.odd_cuts.specs.Certificates.{HasCanonicalText};
 ghost use Rattle.std.specs.Prelude.{◌≡◌, ◌≤◌, All, IfOk, length};
 
 use crate::draft::CertDraft;
-use lists_and_numbers::Memory;
+use design_model::Memory;
 use odd_cuts::Cert;
 use std::alloc::Global;
 use text_parts::split_line;

@@ -1,7 +1,7 @@
 ghost use Rattle.certificate_text.specs.CertificateLines.{is_canonical_numeral, parsed_cert_number};
 ghost use Rattle.std.specs.Prelude.{◌≡◌};
 
-use lists_and_numbers::{are_digits, capped_value};
+use design_model::{are_digits, capped_value};
 
 /// Returns the number below 2 ^ 32 that a word of any length denotes without leading zeros.
 pub(crate) fn number_in(word: &[u8]) -> Option<u32>

@@ -2,25 +2,27 @@
 use Rattle.std.proofs.Common.{◌≡◌, pos, negsuc, true, false, [], ◌∷◌, Some, None, map, replicate, refl}
 use Rattle.std.specs.Prelude.{codes}
 use Rattle.design_edits.specs.declared.axis.Axis.TheVariants.{X, Y}
-use Rattle.command_words.specs.Changes.{cut, mirror, shift, split, thread, turn}
+use Rattle.design_edits.specs.declared.motion.Motion.TheVariants as motion
+use Rattle.command_words.specs.Changes.{cut, move, split, thread}
 use Rattle.command_words.specs.Requests.{parsed_request, check, convert, double, edit, hoop, migrate, route, sample, show, trace}
-use Rattle.command_words.specs.Arguments.{parsed_edit, parsed_edits, refit_changes, parsed_refits, sample_number, hoop_side}
+use Rattle.command_words.specs.Arguments.{parsed_edit, parsed_edits, sample_number, hoop_side}
+use Rattle.command_words.specs.RefitFlags.{refit_changes, parsed_refits}
 
 -- a shift by two numbers from -60,000 to 60,000
-pub known_parsed_edit : (parsed_edit (codes "shift=12,-7") ≡ Some (shift (pos 12) (negsuc 6)))
-    × (parsed_edit (codes "shift=-60000,60000") ≡ Some (shift (negsuc 59999) (pos 60000)))
+pub known_parsed_edit : (parsed_edit (codes "shift=12,-7") ≡ Some (move (motion.Shift (pos 12) (negsuc 6))))
+    × (parsed_edit (codes "shift=-60000,60000") ≡ Some (move (motion.Shift (negsuc 59999) (pos 60000))))
     × (parsed_edit (codes "shift=0,60001") ≡ None)
     × (parsed_edit (codes "shift=-60001,0") ≡ None)
     × (parsed_edit (codes "shift=1") ≡ None)
     × (parsed_edit (codes "shift=1,2,3") ≡ None)
     -- a turn by 0 to 3 quarters
-    × (parsed_edit (codes "turn=0") ≡ Some (turn 0))
-    × (parsed_edit (codes "turn=3") ≡ Some (turn 3))
+    × (parsed_edit (codes "turn=0") ≡ Some (move (motion.Turn 0)))
+    × (parsed_edit (codes "turn=3") ≡ Some (move (motion.Turn 3)))
     × (parsed_edit (codes "turn=4") ≡ None)
     × (parsed_edit (codes "turn=-1") ≡ None)
     -- a mirroring of x or of y
-    × (parsed_edit (codes "mirror=x") ≡ Some (mirror X))
-    × (parsed_edit (codes "mirror=y") ≡ Some (mirror Y))
+    × (parsed_edit (codes "mirror=x") ≡ Some (move (motion.Mirror X)))
+    × (parsed_edit (codes "mirror=y") ≡ Some (move (motion.Mirror Y)))
     × (parsed_edit (codes "mirror=z") ≡ None)
     -- a thread from 0 to 255 for the block of a place from 1 to 255
     × (parsed_edit (codes "thread=1,0") ≡ Some (thread 1 0))
@@ -42,7 +44,7 @@ known_refused_edits = (refl, refl, refl, refl, refl, refl, refl)
 
 -- Arguments parse to edits in their order, if each of them is an edit.
 pub known_parsed_edits : (parsed_edits [] ≡ Some [])
-    × (parsed_edits (codes "turn=1" ∷ codes "mirror=x" ∷ []) ≡ Some (turn 1 ∷ mirror X ∷ []))
+    × (parsed_edits (codes "turn=1" ∷ codes "mirror=x" ∷ []) ≡ Some (move (motion.Turn 1) ∷ move (motion.Mirror X) ∷ []))
     × (parsed_edits (codes "turn=1" ∷ codes "mirror=z" ∷ codes "turn=2" ∷ []) ≡ None)
 known_parsed_edits = (refl, refl, refl)
 
@@ -109,7 +111,7 @@ pub known_requests : (parsed_request (codes "convert" ∷ codes "a.dst" ∷ []) 
     × (parsed_request (codes "show" ∷ codes "a.dst" ∷ codes "b.dst" ∷ []) ≡ None)
     -- `edit` has two names and one edit or more
     × (parsed_request (codes "edit" ∷ codes "a.dst" ∷ codes "b.exp" ∷ codes "turn=1" ∷ codes "thread=1,20" ∷ [])
-    ≡ Some (edit (codes "a.dst") (codes "b.exp") (turn 1 ∷ thread 1 20 ∷ [])))
+    ≡ Some (edit (codes "a.dst") (codes "b.exp") (move (motion.Turn 1) ∷ thread 1 20 ∷ [])))
     × (parsed_request (codes "edit" ∷ codes "a.dst" ∷ codes "b.exp" ∷ []) ≡ None)
     × (parsed_request (codes "edit" ∷ codes "a.dst" ∷ codes "b.exp" ∷ codes "turn=1" ∷ codes "c.pes" ∷ []) ≡ None)
     -- `hoop` has a name, a width and a height

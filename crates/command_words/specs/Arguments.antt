@@ -1,13 +1,14 @@
 -- Arguments that represent numbers and changes.
-use Rattle.std.specs.Prelude.{ℕ, ℤ, pos, negsuc, unsigned_abs, Bool, true, false, ◌&&◌, ◌||◌, nat_le, List, [], ◌∷◌, ◌++◌, Option, Some, None, bytes_eq, codes, option_map, ◌==◌, if◌then◌else◌}
+use Rattle.std.specs.Prelude.{ℕ, ℤ, pos, negsuc, unsigned_abs, ◌&&◌, nat_le, List, [], ◌∷◌, Option, Some, None, bytes_eq, codes, option_map, ◌==◌, if◌then◌else◌}
 use Rattle.design_model.specs.declared.point.Point.{Point}
 use Rattle.design_edits.specs.declared.axis.Axis.TheVariants.{X, Y}
+use Rattle.design_edits.specs.declared.motion.Motion.TheVariants as motion
 use Rattle.design_edits.specs.declared.motion.TheConstants.{MAX_SHIFT}
-use Rattle.lists_and_numbers.specs.declared.whole_number.Whole.{Whole}
-use Rattle.lists_and_numbers.specs.declared.whole_number.Whole.TheVariants as whole
-use Rattle.lists_and_numbers.specs.WholeNumbers.{parsed_whole}
+use Rattle.design_model.specs.declared.whole_number.Whole.{Whole}
+use Rattle.design_model.specs.declared.whole_number.Whole.TheVariants as whole
+use Rattle.design_model.specs.WholeNumbers.{parsed_whole}
 use Rattle.command_words.specs.declared.request_words.TheConstants.{MAX_SAMPLE, MAX_SIDE}
-use Rattle.command_words.specs.Changes.{Change, cut, mirror, shift, split, thread, turn}
+use Rattle.command_words.specs.Changes.{Change, move, thread}
 
 -- The byte between two numbers.
 abbrev pub comma : ℕ
@@ -66,18 +67,18 @@ point_within most (Some (x, y)) = point_if_both (integer_within most (parsed_who
 
 -- The shift by the numbers before and after a comma, each at most MAX_SHIFT in absolute value.
 abbrev pub parsed_shift : Option (List ℕ × List ℕ) → Option Change
-parsed_shift parts = option_map (λ by. shift by.x by.y) (point_within MAX_SHIFT parts)
+parsed_shift parts = option_map (λ by. move (motion.Shift by.x by.y)) (point_within MAX_SHIFT parts)
 
 -- The turn by a number of quarters, if there is one.
 abbrev pub turn_if_some : Option ℕ → Option Change
 turn_if_some None = None
-turn_if_some (Some quarters) = Some (turn quarters)
+turn_if_some (Some quarters) = Some (move (motion.Turn quarters))
 
 -- The mirroring of x or of y.
 abbrev pub parsed_mirror : List ℕ → Option Change
 parsed_mirror value =
-    if bytes_eq value (codes "x") then Some (mirror X)
-    else (if bytes_eq value (codes "y") then Some (mirror Y)
+    if bytes_eq value (codes "x") then Some (move (motion.Mirror X))
+    else (if bytes_eq value (codes "y") then Some (move (motion.Mirror Y))
     else None)
 
 -- The change of the thread of a block, if there are both numbers.
@@ -128,23 +129,3 @@ all_parsed parsed (word ∷ words) = with_first_edit (parsed word) (all_parsed p
 -- The changes that arguments represent, if each of them is an edit.
 abbrev pub parsed_edits : List (List ℕ) → Option (List Change)
 parsed_edits words = all_parsed parsed_edit words
-
--- The test whether two arguments are two given texts, in either order.
-abbrev pub are_in_either_order : (a b one two : List ℕ) → Bool
-are_in_either_order a b one two = (bytes_eq a one && bytes_eq b two)
-    || (bytes_eq a two && bytes_eq b one)
-
--- The flags of `convert`: `--split` and `--cut`, each at most once, in any order.
-abbrev pub parsed_refits : List (List ℕ) → Option (Bool × Bool)
-parsed_refits [] = Some (false, false)
-parsed_refits (a ∷ []) =
-    if bytes_eq a (codes "--split") then Some (true, false)
-    else (if bytes_eq a (codes "--cut") then Some (false, true)
-    else None)
-parsed_refits (a ∷ b ∷ []) =
-    if are_in_either_order a b (codes "--split") (codes "--cut") then Some (true, true) else None
-parsed_refits _ = None
-
--- The changes of the flags: stitches are split before floats are cut.
-abbrev pub refit_changes : Bool → Bool → List Change
-refit_changes splits cuts = (if splits then split ∷ [] else []) ++ (if cuts then cut ∷ [] else [])

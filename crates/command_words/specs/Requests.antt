@@ -2,7 +2,8 @@
 use Rattle.std.specs.Prelude.{ℕ, Bool, List, [], ◌∷◌, Option, Some, None, bytes_eq, codes, option_map, if◌then◌else◌}
 use Rattle.command_words.specs.Changes.{Change}
 use Rattle.command_words.specs.Names.{if_named, names_and_rest, one_name, three_names, three_words, two_names}
-use Rattle.command_words.specs.Arguments.{parsed_edits, parsed_refits, sample_number, hoop_side}
+use Rattle.command_words.specs.Arguments.{parsed_edits, sample_number, hoop_side}
+use Rattle.command_words.specs.RefitFlags.{parsed_refits}
 
 -- A request, with a case for each command.
 pub data RequestValue : Type 0 where

@@ -1,21 +1,17 @@
-ghost use Rattle.command_words.specs.Arguments.{natural_within, comma, parsed_named_edit, parsed_edit, parsed_mirror, split_at_byte, parsed_block_thread, point_within, turn_if_some};
+ghost use Rattle.command_words.specs.Arguments.{natural_within, comma, parsed_named_edit, parsed_edit, parsed_mirror, split_at_byte, parsed_block_thread, parsed_shift, point_within, turn_if_some};
 ghost use Rattle.command_words.specs.Edits.{IsEditInBounds, change_of_edit};
-ghost use Rattle.lists_and_numbers.specs.WholeNumbers.{parsed_whole};
+ghost use Rattle.design_model.specs.WholeNumbers.{parsed_whole};
 ghost use Rattle.std.specs.Prelude.{◌≡◌, ◌≤◌, IfSome, option_map, unsigned_abs};
 
 use crate::number_words::{parse_integer, parse_natural};
-use design_edits::{Axis, MAX_SHIFT};
+use design_edits::{Axis, MAX_SHIFT, Motion};
 use design_model::Point;
 
 /// An edit of a design.
 #[derive(Clone, Copy)]
 pub enum Edit {
-    /// Move all points, by tenths of a millimetre.
-    Shift(Point),
-    /// Turn about the origin, clockwise by quarters.
-    Turn { quarters: u32 },
-    /// Negate all coordinates of an axis.
-    Mirror(Axis),
+    /// Shift, turn or mirror all points.
+    Move(Motion),
     /// Set the thread of a block, numbered from 1.
     Thread { place: u32, thread: u8 },
 }
@@ -34,7 +30,7 @@ fn parse_named_edit(name: &[u8], value: &[u8]) -> Option<Edit>
     ensures small { IfSome result IsEditInBounds }
 {
     match name {
-        name if name == b"shift".as_slice() => parse_point(MAX_SHIFT, value).map(Edit::Shift),
+        name if name == b"shift".as_slice() => parse_shift(value),
         name if name == b"turn".as_slice() => parse_turn(value),
         name if name == b"mirror".as_slice() => parse_mirror(value),
         name if name == b"thread".as_slice() => parse_thread(value),
@@ -54,13 +50,21 @@ pub fn parse_point(most: u32, value: &[u8]) -> Option<Point>
     Some(Point { x, y })
 }
 
+fn parse_shift(value: &[u8]) -> Option<Edit>
+    ensures value { option_map change_of_edit result ≡ parsed_shift (split_at_byte comma value.now) }
+    ensures small { IfSome result IsEditInBounds }
+{
+    let by = parse_point(MAX_SHIFT, value)?;
+    Some(Edit::Move(Motion::Shift { dx: by.x, dy: by.y }))
+}
+
 fn parse_turn(value: &[u8]) -> Option<Edit>
     ensures value { option_map change_of_edit result
         ≡ turn_if_some (natural_within 0 3 (parsed_whole value.now)) }
     ensures small { IfSome result IsEditInBounds }
 {
     let quarters = parse_natural(0, 3, value)?;
-    Some(Edit::Turn { quarters })
+    Some(Edit::Move(Motion::Turn { quarters }))
 }
 
 fn parse_mirror(value: &[u8]) -> Option<Edit>
@@ -68,8 +72,8 @@ fn parse_mirror(value: &[u8]) -> Option<Edit>
     ensures small { IfSome result IsEditInBounds }
 {
     match value {
-        b"x" => Some(Edit::Mirror(Axis::X)),
-        b"y" => Some(Edit::Mirror(Axis::Y)),
+        b"x" => Some(Edit::Move(Motion::Mirror(Axis::X))),
+        b"y" => Some(Edit::Move(Motion::Mirror(Axis::Y))),
         _ => None,
     }
 }

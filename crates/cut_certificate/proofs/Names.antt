@@ -18,12 +18,12 @@ pub use Rattle.cut_certificate.specs.MoatDistances.{AreAllMoatDistances, AreDist
 pub use Rattle.cut_certificate.specs.MoatDistances.{IsProgress, distance_from, lesser_of, lowered_distance}
 pub use Rattle.cut_certificate.specs.TerminalStates.{AreTerminalStates, IsFirst, IsOutermost, IsProcessed, IsUncovered, covered, surrounded}
 pub use Rattle.cut_certificate.specs.declared.terminal_state.TerminalState.{TerminalState}
-pub use Rattle.drawing_model.specs.declared.limits.TheConstants.{MAX_COST, MAX_LINES}
+pub use Rattle.line_graph.specs.declared.limits.TheConstants.{MAX_COST, MAX_LINES}
 pub use Rattle.line_graph.specs.PieceGraphs.{PieceValue, odd_junctions}
 pub use Rattle.line_graph.specs.PieceWalks.{all_greater, is_strictly_increasing}
 pub use Rattle.line_graph.specs.PiecesOfDrawings.{graph_of}
 pub use Rattle.line_graph.specs.declared.edge.Edge.{Edge}
-pub use Rattle.lists_and_numbers.proofs.CallerLemmas.{front_written, same_test}
+pub use Rattle.design_model.proofs.ListLemmas.{front_written, same_test}
 pub use Rattle.odd_cuts.specs.Cuts.{crosses, has_member, load_on, total_weight}
 pub use Rattle.odd_cuts.specs.Packings.{IsOddCut, IsPacking, IsPlainCut}
 pub use Rattle.odd_cuts.specs.declared.cut.Cut.{Cut}

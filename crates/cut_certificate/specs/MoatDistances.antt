@@ -11,7 +11,7 @@ use Rattle.cut_certificate.specs.declared.moat_distances.LiftProgress.{LiftProgr
 use Rattle.odd_cuts.specs.Cuts.{has_member}
 use Rattle.cut_certificate.specs.Levels.{LiftInput, distance_beyond, lift_input}
 use Rattle.cut_certificate.specs.TerminalStates.{AreTerminalStates, IsProcessed}
-use Rattle.drawing_model.specs.declared.limits.TheConstants.{MAX_COST}
+use Rattle.line_graph.specs.declared.limits.TheConstants.{MAX_COST}
 use Rattle.odd_paths.specs.LeastRows.{RowsValue, cost_at, row_length}
 
 -- The distances of all junctions from a moat: each is the least distance from a member, beyond the

@@ -1,8 +1,8 @@
 ghost use Rattle.cut_certificate.specs.MoatCuts.{AddsCuts, AreCutsTo, NoneBetween, members_from};
-ghost use Rattle.drawing_model.specs.declared.limits.TheConstants.{MAX_LINES};
+ghost use Rattle.line_graph.specs.declared.limits.TheConstants.{MAX_LINES};
 ghost use Rattle.std.specs.Prelude.{◌≡◌, ◌+◌, ◌<◌, ◌≤◌, IfOk, OnOk, length};
 
-use lists_and_numbers::{Memory, Numbers};
+use design_model::{Memory, Numbers};
 use odd_cuts::{Cut, Cuts};
 use std::alloc::Global;
 

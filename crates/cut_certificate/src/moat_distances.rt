@@ -6,7 +6,7 @@ ghost use Rattle.std.specs.Prelude.{◌≡◌, ◌+◌, ◌%◌, ◌<◌, ◌≤
 use crate::single_moat::distances_of;
 use crate::terminal_state::{TerminalState, surround};
 use blossom_match::Moat;
-use lists_and_numbers::Memory;
+use design_model::Memory;
 use odd_paths::Rows;
 use std::alloc::Global;
 

@@ -1,12 +1,12 @@
 ghost use Rattle.cut_certificate.specs.Levels.{lift_input};
 ghost use Rattle.cut_certificate.specs.MoatDistances.{AreLesser, AreLoweredDistances, HasRowsForMoats, HasDistance, HaveDistances, IsNextMoat, AreDistancesFrom};
-ghost use Rattle.drawing_model.specs.declared.limits.TheConstants.{MAX_COST};
+ghost use Rattle.line_graph.specs.declared.limits.TheConstants.{MAX_COST};
 ghost use Rattle.std.specs.Prelude.{ℕ, ◌≡◌, ◌-◌, ◌*◌, ◌<◌, ◌≤◌, ◌∷◌, [], IfOk, length, slice_index};
 
 use crate::terminal_state::{TerminalState, state_at};
 use blossom_match::Moat;
-use drawing_model::MAX_COST;
-use lists_and_numbers::Memory;
+use design_model::Memory;
+use line_graph::MAX_COST;
 use odd_paths::Rows;
 use std::alloc::Global;
 

@@ -1,8 +1,7 @@
 -- What the theorems on moves that restore a design say of one design, and what results of edits exclude.
 use Rattle.std.proofs.Common.{◌≡◌, ℕ, ℤ, neg_ℤ, ◌+◌, List, [], ◌∷◌, None, Some, Ok, Err, arith}
 use Rattle.design_edits.proofs.Names.{DesignValue, Axis, Recolours, colour_place_count, recoloured, FourQuarterTurnsRestore, OppositeShiftRestores, TwoMirroringsRestore, first_out_of_range, mirrored, shifted, turned, IsRecolourResult}
-use Rattle.design_edits.specs.declared.edit_faults.MovedOut.{MovedOut}
-use Rattle.design_edits.specs.declared.edit_faults.NoPlace.{NoPlace}
+use Rattle.design_edits.specs.declared.edit_fault.EditFault.TheVariants as fault
 use Rattle.design_edits.specs.Shifts.{IsShiftResult}
 
 -- four turns by one quarter each, two mirrorings of one axis, and two shifts
@@ -20,19 +19,26 @@ pub known_shifted : (dx dy : ℤ) (old new : DesignValue) (n : ℕ) → IsShiftR
     → (first_out_of_range (shifted dx dy old).commands ≡ None) × (new ≡ shifted dx dy old)
 known_shifted dx dy old new n is = (is.0, is.1)
 
-pub known_not_shifted : (dx dy : ℤ) (old new : DesignValue) (out : MovedOut) → IsShiftResult {T = ℕ} dx dy old (Err out) new
-    → (first_out_of_range (shifted dx dy old).commands ≡ Some out.number) × (new ≡ old)
-known_not_shifted dx dy old new out is = (is.0, is.1)
+pub known_not_shifted : (dx dy : ℤ) (old new : DesignValue) (n : ℕ) → IsShiftResult {T = ℕ} dx dy old (Err (fault.Range n)) new
+    → (first_out_of_range (shifted dx dy old).commands ≡ Some n) × (new ≡ old)
+known_not_shifted dx dy old new n is = (is.0, is.1)
+
+pub known_no_place : (dx dy : ℤ) (old new : DesignValue) (n : ℕ) → IsShiftResult {T = ℕ} dx dy old (Err (fault.NoPlace n)) new → ⊥
+known_no_place dx dy old new n is = is
 
 -- a thread is set at a colour place, and elsewhere refused with the number of places
 pub known_recoloured : (place thread : ℕ) (old new : DesignValue) (n : ℕ) → IsRecolourResult {T = ℕ} place thread old (Ok n) new
     → (place ≡ colour_place_count old → ⊥) × (new ≡ recoloured place thread old)
 known_recoloured place thread old new n is = (λ same. omega (arith, same, is.0), is.1)
 
-pub known_not_recoloured : (place thread : ℕ) (old new : DesignValue) (none : NoPlace)
-    → IsRecolourResult {T = ℕ} place thread old (Err none) new
-    → (place + 1 ≡ colour_place_count old → ⊥) × (none.count ≡ colour_place_count old) × (new ≡ old)
-known_not_recoloured place thread old new none is = (λ less. omega (arith, less, is.0), is.1, is.2)
+pub known_not_recoloured : (place thread : ℕ) (old new : DesignValue) (n : ℕ)
+    → IsRecolourResult {T = ℕ} place thread old (Err (fault.NoPlace n)) new
+    → (place + 1 ≡ colour_place_count old → ⊥) × (n ≡ colour_place_count old) × (new ≡ old)
+known_not_recoloured place thread old new n is = (λ less. omega (arith, less, is.0), is.1, is.2)
+
+pub known_range : (place thread : ℕ) (old new : DesignValue) (n : ℕ)
+    → IsRecolourResult {T = ℕ} place thread old (Err (fault.Range n)) new → ⊥
+known_range place thread old new n is = is
 
 -- the other blocks keep their threads
 abbrev design : List ℕ → DesignValue

@@ -16,4 +16,4 @@ pub use Rattle.design_model.specs.Points.{is_point_within}
 pub use Rattle.design_model.specs.declared.command.Command.{Command}
 pub use Rattle.design_model.specs.declared.command.Command.TheVariants.{Jump, Stitch, Stop, Trim}
 pub use Rattle.design_model.specs.declared.point.Point.{Point}
-pub use Rattle.lists_and_numbers.proofs.CallerLemmas.{back-there, neg-neg, size-neg}
+pub use Rattle.design_model.proofs.ListLemmas.{back-there, neg-neg, size-neg}

@@ -5,7 +5,8 @@ use Rattle.std.specs.List.{range_with_len}
 use Rattle.design_model.specs.declared.design.TheConstants.{MAX_THREADS}
 use Rattle.design_model.specs.Counts.{counts_of}
 use Rattle.design_model.specs.Designs.{DesignValue, thread_of}
-use Rattle.design_edits.specs.declared.edit_faults.NoPlace.{NoPlace}
+use Rattle.design_edits.specs.declared.edit_fault.EditFault.{EditFault}
+use Rattle.design_edits.specs.declared.edit_fault.EditFault.TheVariants as fault
 
 -- The number of colour places: the number of blocks, which is that of stops plus 1, but at most
 -- MAX_THREADS.
@@ -31,9 +32,10 @@ Recolours place thread old new =
     (block : ℕ) → thread_of new block ≡ (if block == place then thread else thread_of old block)
 
 -- The results of setting a thread. An error leaves the design unchanged.
-abbrev pub IsRecolourResult : {T : Type 0} → ℕ → ℕ → DesignValue → Result T NoPlace → DesignValue
+abbrev pub IsRecolourResult : {T : Type 0} → ℕ → ℕ → DesignValue → Result T EditFault → DesignValue
     → Type 0
 IsRecolourResult place thread old (Ok _) new = (place < colour_place_count old)
     × (new ≡ recoloured place thread old)
-IsRecolourResult place thread old (Err none) new =
-    (colour_place_count old ≤ place) × (none.count ≡ colour_place_count old) × (new ≡ old)
+IsRecolourResult place thread old (Err (fault.Range number)) new = ⊥
+IsRecolourResult place thread old (Err (fault.NoPlace count)) new =
+    (colour_place_count old ≤ place) × (count ≡ colour_place_count old) × (new ≡ old)

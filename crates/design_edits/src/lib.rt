@@ -3,14 +3,14 @@
 
 mod axis;
 mod colours;
-mod edit_faults;
+mod edit_fault;
 mod inverses;
 mod motion;
 mod moving;
 
 pub use axis::Axis;
 pub use colours::recolour;
-pub use edit_faults::{MovedOut, NoPlace};
+pub use edit_fault::EditFault;
 pub use inverses::{
     an_opposite_shift_restores, four_quarter_turns_restore, two_mirrorings_restore,
 };

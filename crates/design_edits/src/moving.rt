@@ -8,20 +8,20 @@ ghost use Rattle.std.specs.List.{list_all};
 ghost use Rattle.std.specs.Prelude.{◌≡◌, ◌≤◌, ◌<◌, length, map, unsigned_abs, slice_get, IfSome, IsTrue, Some, None};
 
 use crate::axis::Axis;
-use crate::edit_faults::MovedOut;
+use crate::edit_fault::EditFault;
 use crate::motion::{MAX_SHIFT, Motion};
 use design_model::{Command, Design};
 
 /// Moves each point by (`dx`, `dy`), in tenths of a millimetre. If a point would be out of its range, the
-/// design is unchanged, and the error has the number of the first such command.
-pub fn shift(design: &mut Design, dx: i32, dy: i32) -> Result<(), MovedOut>
+/// design is unchanged, and `Range` has the number of the first such command.
+pub fn shift(design: &mut Design, dx: i32, dy: i32) -> Result<(), EditFault>
     requires dx { unsigned_abs dx ≤ MAX_SHIFT }
     requires dy { unsigned_abs dy ≤ MAX_SHIFT }
     ensures { IsShiftResult dx dy design.old result design.new }
 {
     let motion = Motion::Shift { dx, dy };
     if let Some(number) = first_outside(design.commands(), motion) {
-        return Err(MovedOut { number });
+        return Err(EditFault::Range { number });
     }
     move_points(design, motion);
     Ok(())

@@ -5,7 +5,7 @@ use Rattle.design_model.proofs.Names.{list_all, Stitch, Jump, Point, is_command_
 use Rattle.design_model.specs.declared.command.Command.TheVariants.{Trim, Stop}
 use Rattle.design_model.specs.declared.design.TheConstants.{MAX_COMMANDS, MAX_LABEL, MAX_THREADS}
 use Rattle.design_model.specs.declared.point.TheConstants.{JUMP_LIMIT, NEEDLE_LIMIT}
-use Rattle.lists_and_numbers.specs.declared.whole_number.TheConstants.{MAX_WHOLE}
+use Rattle.design_model.specs.declared.whole_number.TheConstants.{MAX_WHOLE}
 
 -- how far a needle and a jump may reach on each axis
 pub known_coordinate_limits : (NEEDLE_LIMIT ≡ 30000)

@@ -3,7 +3,7 @@ use Rattle.std.proofs.Common.{◌≡◌, ℕ, true, false, IsTrue, length, Ok, E
 use Rattle.design_model.proofs.Names.{list_all, Command, is_command_in_range, DesignValue, KeepsLimits, Pushes, with_command, IsLabel, Result}
 use Rattle.design_model.specs.declared.design.ModelFault.TheVariants as fault
 use Rattle.design_model.specs.declared.design.ModelFault.{ModelFault}
-use Rattle.lists_and_numbers.specs.OutOfMemory.{IsSpecified}
+use Rattle.design_model.specs.OutOfMemory.{IsSpecified}
 
 -- a refusal leaves the design as it was
 pub known_unchanged : (c : Command) (old new : DesignValue) → (f : ModelFault) → Pushes {T = ℕ} c old (Err f) new → new ≡ old

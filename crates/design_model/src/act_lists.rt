@@ -6,8 +6,8 @@ use crate::act::NumberedAct;
 use crate::command::Command;
 use crate::design::Design;
 use crate::lists::Acts;
+use crate::memory::Memory;
 use crate::thread_state::ThreadState;
-use lists_and_numbers::Memory;
 use std::alloc::Global;
 
 /// Returns the acts of a design, each with the number of its command.

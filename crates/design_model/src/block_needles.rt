@@ -9,8 +9,9 @@ ghost use Rattle.std.specs.Prelude.{◌≡◌, ◌≤◌, ◌<◌, ◌+◌, ◌�
 use crate::act::Act;
 use crate::command::Command;
 use crate::design::Design;
+use crate::items::Numbers;
+use crate::memory::Memory;
 use crate::thread_state::ThreadState;
-use lists_and_numbers::{Memory, Numbers};
 use std::alloc::Global;
 
 /// Returns the number of needle acts of each block, in order. A stop act ends a block.

@@ -2,12 +2,12 @@ ghost use Rattle.design_model.specs.Commands.{is_command_in_range, command_with_
 ghost use Rattle.design_model.specs.Labels.{IsLabel};
 ghost use Rattle.design_model.specs.declared.design.ModelFault.TheVariants as fault;
 ghost use Rattle.std.specs.List.{list_all};
-ghost use Rattle.std.specs.Prelude.{◌≡◌, ◌<◌, ◌≤◌, ◌∷◌, ◌++◌, [], length, slice_get, slice_set, IfSome, IsSomeAnd, IsTrue, OnErr, OnOk};
+ghost use Rattle.std.specs.Prelude.{◌≡◌, ◌<◌, ◌≤◌, length, slice_get, slice_set, IfSome, IsSomeAnd, IsTrue, OnErr, OnOk};
 
 use crate::command::Command;
+use crate::memory::Memory;
 use crate::point::Point;
 use arrayvec::ArrayVec;
-use lists_and_numbers::Memory;
 use std::alloc::Global;
 use std::marker::Model;
 

@@ -1,5 +1,5 @@
-//! Embroidery designs: points, commands, the acts computed from them, and the list types that the crates
-//! above share.
+//! Embroidery designs: points, commands, the acts computed from them, lengths of lines. What all crates share: lists that grow, whole
+//! numbers in texts, the error of a lack of memory, the greatest length of a file, and lemmas on plain lists.
 #![tactic(auto)]
 
 mod act;
@@ -8,13 +8,19 @@ mod act_scanner;
 mod block_needles;
 mod bounds;
 mod command;
+mod decimals;
 mod design;
 mod design_counts;
 mod design_extent;
+mod items;
+mod lengths;
+mod limits;
 mod lists;
+mod memory;
 mod point;
 mod tally;
 mod thread_state;
+mod whole_number;
 
 pub use act::{Act, NumberedAct};
 pub use act_lists::acts;
@@ -22,10 +28,16 @@ pub use act_scanner::ActScanner;
 pub use block_needles::block_counts;
 pub use bounds::{Extent, height, width};
 pub use command::Command;
+pub use decimals::put_decimal;
 pub use design::{Design, MAX_COMMANDS, MAX_LABEL, MAX_THREADS, ModelFault};
 pub use design_counts::counts;
 pub use design_extent::{extent, extent_over};
+pub use items::{Bytes, Items, Numbers};
+pub use lengths::{length_between, square_between};
+pub use limits::MAX_FILE;
 pub use lists::{Acts, Commands, Points};
+pub use memory::Memory;
 pub use point::{JUMP_LIMIT, NEEDLE_LIMIT, Point};
 pub use tally::Counts;
 pub use thread_state::ThreadState;
+pub use whole_number::{MAX_WHOLE, Whole, are_digits, capped_value, parse_whole, signed};

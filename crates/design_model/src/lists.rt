@@ -1,7 +1,7 @@
 use crate::act::NumberedAct;
 use crate::command::Command;
+use crate::items::Items;
 use crate::point::Point;
-use lists_and_numbers::Items;
 
 /// Points, in tenths of a millimetre.
 pub type Points = Items<Point>;

@@ -12,7 +12,7 @@ use Rattle.design_picture.specs.Layouts.{area_of, sheet_of}
 use Rattle.design_picture.specs.Threads.{arc_text, arrow_shape, hole_shape, travel_shape}
 use Rattle.hoop_check.specs.declared.fitting.Fit.TheVariants as fit
 use Rattle.picture_parts.specs.Colours.{colour_of_thread}
-use Rattle.picture_parts.specs.Lengths.{length_of, square_of, whole_root}
+use Rattle.design_model.specs.Lengths.{length_of, square_of, whole_root}
 use Rattle.picture_parts.specs.Parts.{around, filled}
 use Rattle.picture_parts.specs.Paths.{coloured_path, move_text, path_end, straight_text}
 

@@ -8,7 +8,7 @@ use Rattle.design_model.specs.declared.point.Point.{Point}
 use Rattle.design_model.specs.Points.{origin}
 use Rattle.design_picture.specs.declared.pen.Pen.{Pen}
 use Rattle.design_picture.specs.declared.pen.TheConstants.{ARROW_GAP}
-use Rattle.picture_parts.specs.Lengths.{length_of}
+use Rattle.design_model.specs.Lengths.{length_of}
 
 -- The pen before the first act.
 abbrev pub first_pen : Pen

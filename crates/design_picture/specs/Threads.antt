@@ -9,7 +9,7 @@ use Rattle.design_picture.specs.declared.strokes.Stroke.{Stroke}
 use Rattle.design_picture.specs.declared.strokes.Stroke.TheVariants.{Begin, Float, Sewn, Trim, Stop}
 use Rattle.design_picture.specs.declared.threads.TheConstants.{MIN_SHOWN}
 use Rattle.picture_parts.specs.Colours.{colour_of_thread}
-use Rattle.picture_parts.specs.Lengths.{square_of}
+use Rattle.design_model.specs.Lengths.{square_of}
 use Rattle.picture_parts.specs.Parts.{around, ended, filled, point_text}
 use Rattle.picture_parts.specs.Paths.{coloured_path, move_text, path_end, straight_text}
 

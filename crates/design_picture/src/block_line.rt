@@ -2,7 +2,7 @@ ghost use Rattle.design_picture.specs.Captions.{block_line, block_start, block_w
 ghost use Rattle.std.specs.Prelude.{◌≡◌, ◌++◌, OnOk};
 
 use crate::strokes::{BlockEnd, Stroke};
-use lists_and_numbers::{Bytes, Memory};
+use design_model::{Bytes, Memory};
 use picture_parts::{Part, put, thread_colour};
 
 /// The height of a line of text below the picture, in tenths of a millimetre.

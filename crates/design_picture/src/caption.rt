@@ -2,8 +2,7 @@ ghost use Rattle.design_picture.specs.Captions.{caption, group_end};
 ghost use Rattle.std.specs.Prelude.{◌≡◌, ◌++◌, OnOk};
 
 use crate::pen::Pen;
-use design_model::Counts;
-use lists_and_numbers::{Bytes, Memory};
+use design_model::{Bytes, Counts, Memory};
 use picture_parts::{Part, put};
 
 /// What the marks mean.

@@ -1,9 +1,8 @@
 ghost use Rattle.design_picture.specs.Hoops.{hoop_as_fits, hoop_class, hoop_end, hoop_start, hoop_text, offset_text};
 ghost use Rattle.std.specs.Prelude.{◌≡◌, ◌++◌, OnOk};
 
-use design_model::{Extent, Point, height, width};
+use design_model::{Bytes, Extent, Memory, Point, height, width};
 use hoop_check::Fit;
-use lists_and_numbers::{Bytes, Memory};
 use picture_parts::{Part, put};
 
 /// A hoop, in tenths of a millimetre.

@@ -5,7 +5,7 @@ use crate::block_line::put_block_line;
 use crate::marks::put_stroke_marks;
 use crate::strokes::Stroke;
 use crate::threads::{put_arrow, put_hole, put_second, put_thread, put_travel};
-use lists_and_numbers::{Bytes, Memory};
+use design_model::{Bytes, Memory};
 use picture_parts::{put_path_end, put_path_start};
 
 /// A layer of the picture, which has its text of each stroke.

@@ -4,8 +4,7 @@ ghost use Rattle.std.specs.Prelude.{◌≡◌, ◌++◌, ◌<◌, ◌^◌, OnOk}
 
 use crate::block_line::LINE_HEIGHT;
 use crate::hoop::Hoop;
-use design_model::{Extent, Point, height, width};
-use lists_and_numbers::{Bytes, Memory};
+use design_model::{Bytes, Extent, Memory, Point, height, width};
 use picture_parts::{Part, Sheet, put, put_head};
 
 /// The space around what is shown, in tenths of a millimetre.

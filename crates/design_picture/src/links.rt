@@ -2,8 +2,7 @@ ghost use Rattle.design_picture.specs.Passes.{earlier_passes, is_same_stitch, pa
 ghost use Rattle.std.specs.HashMap.{get};
 ghost use Rattle.std.specs.Prelude.{◌≡◌, ◌≤◌, IfOk, OnOk};
 
-use design_model::Point;
-use lists_and_numbers::Memory;
+use design_model::{Memory, Point};
 use std::collections::HashMap;
 
 /// The greatest number of passes of a stitch in one direction that are distinguished.

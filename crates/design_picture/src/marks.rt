@@ -4,8 +4,7 @@ ghost use Rattle.picture_parts.specs.declared.marks.Mark.TheVariants as mark;
 ghost use Rattle.std.specs.Prelude.{◌≡◌, ◌++◌, OnOk};
 
 use crate::strokes::{PieceStart, Stroke};
-use design_model::Point;
-use lists_and_numbers::{Bytes, Memory};
+use design_model::{Bytes, Memory, Point};
 use picture_parts::{Mark, Part, put, put_mark};
 
 /// Appends the marks of a stroke.

@@ -1,8 +1,7 @@
 ghost use Rattle.design_picture.specs.Pens.{first_pen, needle_down, pen_after, HasCounted};
 ghost use Rattle.std.specs.Prelude.{◌≡◌, ◌+◌, ◌*◌, ◌<◌, ◌≤◌, ◌^◌};
 
-use design_model::{Act, Point};
-use picture_parts::length_between;
+use design_model::{Act, Point, length_between};
 
 /// The length of thread from one arrow to the next, in thousandths of a millimetre, at least.
 pub const ARROW_GAP: u128 = 5_000;

@@ -10,9 +10,8 @@ use crate::layers::{Layer, put_layer, put_path_layer};
 use crate::layout::{Area, area_of, corners_in, put_below_start, put_top};
 use crate::pen::Pen;
 use crate::strokes::{Stroke, Strokes, ended, put_strokes};
-use design_model::{Design, Point, counts, extent, height, width};
+use design_model::{Bytes, Design, Memory, Point, counts, extent, height, width};
 use hoop_check::fits;
-use lists_and_numbers::{Bytes, Memory};
 use picture_parts::{
     Mark, Part, put, put_coloured_path, put_foot, put_mark, put_path_end, thread_colour,
 };

@@ -11,8 +11,7 @@ ghost use Rattle.std.specs.Prelude.{◌≡◌, ◌≤◌, ◌<◌, ◌+◌, ◌^
 
 use crate::links::{PointPair, pass};
 use crate::pen::{ARROW_GAP, Pen};
-use design_model::{Act, ActScanner, Command, Design, Point};
-use lists_and_numbers::{Items, Memory};
+use design_model::{Act, ActScanner, Command, Design, Items, Memory, Point};
 use std::alloc::Global;
 use std::collections::HashMap;
 

@@ -2,11 +2,9 @@ ghost use Rattle.design_picture.specs.Threads.{arc_text, arrow_shape, arrow_text
 ghost use Rattle.std.specs.Prelude.{◌≡◌, ◌++◌, OnOk};
 
 use crate::strokes::{PieceStart, SewnStitch, Stroke};
-use design_model::Point;
-use lists_and_numbers::{Bytes, Memory};
+use design_model::{Bytes, Memory, Point, square_between};
 use picture_parts::{
-    Part, put, put_around, put_coloured_path, put_move, put_path_end, put_straight, square_between,
-    thread_colour,
+    Part, put, put_around, put_coloured_path, put_move, put_path_end, put_straight, thread_colour,
 };
 
 /// The shortest stitch whose needle hole is shown, in tenths of a millimetre on its longer axis.

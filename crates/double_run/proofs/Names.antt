@@ -21,5 +21,5 @@ pub use Rattle.line_graph.specs.PiecesOfDrawings.{graph_of}
 pub use Rattle.line_graph.specs.ValidPieces.{IsValidPiece, ends_below}
 pub use Rattle.line_graph.specs.declared.edge.Edge.{Edge}
 pub use Rattle.line_graph.specs.declared.pass.Pass.{Pass}
-pub use Rattle.lists_and_numbers.proofs.CallerLemmas.{differs, differs_back, eq_self, less_test, one_before, one_of, same_number, same_test}
-pub use Rattle.lists_and_numbers.proofs.CallerLemmas.{some_same, suc_zero}
+pub use Rattle.design_model.proofs.ListLemmas.{differs, differs_back, eq_self, less_test, one_before, one_of, same_number, same_test}
+pub use Rattle.design_model.proofs.ListLemmas.{some_same, suc_zero}

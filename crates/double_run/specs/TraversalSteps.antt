@@ -1,6 +1,6 @@
 -- The steps of a traversal.
 use Rattle.std.specs.Prelude.{◌≡◌, ℕ, ◌+◌, ◌*◌, ◌<◌, Bool, true, false, not, List, [], ◌∷◌, ◌++◌, Result, Ok, Err, length, get_or, sum_by}
-use Rattle.lists_and_numbers.specs.declared.memory.Memory.{Memory}
+use Rattle.design_model.specs.declared.memory.Memory.{Memory}
 use Rattle.line_graph.specs.PieceGraphs.{PieceValue, one_if}
 use Rattle.line_graph.specs.Pieces.{first_line}
 use Rattle.line_graph.specs.PieceWalks.{BeginsWith}

@@ -4,8 +4,8 @@ ghost use Rattle.line_graph.specs.PiecesOfDrawings.{graph_of};
 ghost use Rattle.std.specs.Prelude.{◌≡◌, ◌*◌, IfOk, true};
 
 use crate::traversal::{begin_traversal, step};
+use design_model::Memory;
 use line_graph::{Piece, Walk};
-use lists_and_numbers::Memory;
 use std::alloc::Global;
 
 /// Returns a closed walk over a piece that passes each line once forwards and once backwards, and begins with

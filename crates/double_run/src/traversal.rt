@@ -4,9 +4,9 @@ ghost use Rattle.line_graph.specs.PiecesOfDrawings.{graph_of};
 ghost use Rattle.std.specs.Prelude.{◌≡◌, ◌<◌, [], IfOk, OnOk, false, true};
 
 use crate::legs::{DirectedLeg, end_of_leg, leg_from, start_of_leg};
+use design_model::Memory;
 use euler_tour::{LineEnds, chain, skip_end};
 use line_graph::{Piece, Walk};
-use lists_and_numbers::Memory;
 use std::alloc::Global;
 
 /// A traversal: the walk up to now, which leads to `at`; the stack of legs that it went out; and which lines

@@ -1,7 +1,7 @@
 -- Edits of a drawing, one after another.
 use Rattle.std.proofs.Common.{◌≡◌, ◌∙◌, ℕ, ◌+◌, Bool, true, false, List, [], ◌∷◌, Option, Some, None, IfSome, IsSome, Result, Ok, Err, ap, sym, subst}
 use Rattle.drawing_commands.proofs.Names.{unwrap_or, first_parsed, later_parsed, with_first_edit, DrawingEdit, DrawingValue, BadEdit, bad_edit_is_out_of_memory, edits_applied, drawing_edits_of, parsed_drawing_edit, parsed_drawing_edits, and_then, at_edit}
-use Rattle.lists_and_numbers.specs.OutOfMemory.{IsSpecified, UnlessOutOfMemory}
+use Rattle.design_model.specs.OutOfMemory.{IsSpecified, UnlessOutOfMemory}
 use Rattle.drawing_edits.specs.declared.edit_fault.EditFault.{EditFault}
 use Rattle.drawing_edits.specs.EditedDrawings.{edited_drawing}
 use Rattle.drawing_edits.specs.EditFaults.{edit_is_out_of_memory}

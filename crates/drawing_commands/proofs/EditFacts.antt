@@ -6,7 +6,7 @@ use Rattle.design_edits.specs.declared.axis.Axis.TheVariants as axis
 use Rattle.design_edits.specs.declared.motion.Motion.TheVariants as motion
 use Rattle.drawing_edits.specs.declared.drawing_edit.DrawingEdit.TheVariants as edit
 use Rattle.drawing_edits.specs.declared.edit_fault.EditFault.TheVariants as fault
-use Rattle.drawing_model.specs.declared.draw_kind.DrawKind.TheVariants as kind
+use Rattle.line_graph.specs.declared.draw_kind.DrawKind.TheVariants as kind
 
 pub known_parsed_drawing_edits : (parsed_drawing_edits (codes "shift=-5,70" ∷ codes "turn=3" ∷ codes "mirror=y" ∷ codes "centre"
     ∷ codes "step=2047" ∷ [])

@@ -2,7 +2,7 @@
 use Rattle.std.proofs.Common.{◌≡◌, pos, [], ◌∷◌, ◌++◌, None, codes, refl}
 use Rattle.std.specs.Fmt.{digits}
 use Rattle.drawing_commands.proofs.Names.{look_piece_line, look_totals_text}
-use Rattle.lists_and_numbers.specs.TextLines.{newline}
+use Rattle.design_model.specs.TextLines.{newline}
 use Rattle.line_graph.specs.PieceGraphs.{PieceValue}
 use Rattle.piece_stitches.specs.declared.counting.PieceStitches.{PieceStitches}
 

@@ -15,9 +15,9 @@ pub use Rattle.drawing_commands.specs.SnapOrders.{IsSnapProduct, snap_made, snap
 pub use Rattle.drawing_commands.specs.SpaceOrders.{IsSpaceProduct, space_made, space_order, space_read, space_report}
 pub use Rattle.drawing_commands.specs.declared.bad_edit.BadEdit.{BadEdit}
 pub use Rattle.drawing_edits.specs.declared.drawing_edit.DrawingEdit.{DrawingEdit}
-pub use Rattle.drawing_model.specs.Drawings.{DrawingValue}
-pub use Rattle.drawing_model.specs.EndOrders.{AreInBlockOrder, HasOrderedEnds}
-pub use Rattle.drawing_model.specs.GrowingDrawings.{and_then, draw_is_out_of_memory, point_count}
+pub use Rattle.line_graph.specs.Drawings.{DrawingValue}
+pub use Rattle.line_graph.specs.EndOrders.{AreInBlockOrder, HasOrderedEnds}
+pub use Rattle.line_graph.specs.GrowingDrawings.{and_then, draw_is_out_of_memory, point_count}
 pub use Rattle.drawing_repairs.specs.Snaps.{snap_is_out_of_memory, snap_of}
 pub use Rattle.drawing_repairs.specs.declared.snapping.SnappedDrawing.{SnappedDrawing}
 pub use Rattle.drawing_text.specs.DrawingText.{drawing_of}

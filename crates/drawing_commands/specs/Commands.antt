@@ -1,7 +1,7 @@
 -- The commands of stitch_drawing: the plan of each order, the files that it writes, and the usage
 -- text.
 use Rattle.std.specs.Prelude.{ℕ, List, [], ◌∷◌, ◌++◌, codes}
-use Rattle.lists_and_numbers.specs.TextLines.{newline}
+use Rattle.design_model.specs.TextLines.{newline}
 use Rattle.program_shell.specs.Plans.{Plan}
 use Rattle.program_shell.specs.Programs.{Program}
 use Rattle.drawing_commands.specs.DrawingEditing.{drawing_edit_plan}

@@ -2,21 +2,18 @@
 -- `mirror=y` as of a design, `centre`, `step=N`, `order=P,Q`, `start=X,Y` and `end=X,Y`.
 use Rattle.std.specs.Prelude.{ℕ, List, [], Option, Some, None, bytes_eq, codes, option_map, unwrap_or, if◌then◌else◌}
 use Rattle.command_words.specs.Arguments.{all_parsed, comma, equals_sign, natural_within, parsed_edit, point_within, split_at_byte}
-use Rattle.command_words.specs.Changes.{Change, mirror, shift, turn}
-use Rattle.design_edits.specs.declared.motion.Motion.TheVariants as motion
+use Rattle.command_words.specs.Changes.{Change, move}
 use Rattle.design_model.specs.declared.point.TheConstants.{NEEDLE_LIMIT}
-use Rattle.lists_and_numbers.specs.WholeNumbers.{parsed_whole}
+use Rattle.design_model.specs.WholeNumbers.{parsed_whole}
 use Rattle.drawing_edits.specs.declared.drawing_edit.DrawingEdit.{DrawingEdit}
 use Rattle.drawing_edits.specs.declared.drawing_edit.DrawingEdit.TheVariants as edit
-use Rattle.drawing_model.specs.declared.limits.TheConstants.{MAX_LINES}
+use Rattle.line_graph.specs.declared.limits.TheConstants.{MAX_LINES}
 use Rattle.step_splitter.specs.declared.segment.TheConstants.{MAX_STEP}
 
 -- The edit of a drawing that a change of a design is, if it moves points.
 abbrev pub moving_edit : Option Change → Option DrawingEdit
 moving_edit None = None
-moving_edit (Some (shift dx dy)) = Some (edit.Move (motion.Shift dx dy))
-moving_edit (Some (turn quarters)) = Some (edit.Move (motion.Turn quarters))
-moving_edit (Some (mirror axis)) = Some (edit.Move (motion.Mirror axis))
+moving_edit (Some (move by)) = Some (edit.Move by)
 moving_edit (Some other) = None
 
 -- The edit that orders two pieces, if there are both numbers.

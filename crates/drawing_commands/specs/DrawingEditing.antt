@@ -9,8 +9,8 @@ use Rattle.drawing_edits.specs.EditFaults.{edit_is_out_of_memory}
 use Rattle.drawing_text.specs.declared.draw_fault.DrawFault.{DrawFault}
 use Rattle.drawing_text.specs.DrawingText.{drawing_of}
 use Rattle.drawing_text.specs.EndTexts.{drawn_text}
-use Rattle.drawing_model.specs.Drawings.{DrawingValue}
-use Rattle.drawing_model.specs.GrowingDrawings.{and_then, step_count}
+use Rattle.line_graph.specs.Drawings.{DrawingValue}
+use Rattle.line_graph.specs.GrowingDrawings.{and_then, step_count}
 use Rattle.line_graph.specs.Pieces.{ArePieces}
 use Rattle.program_shell.specs.FileTexts.{text_at}
 use Rattle.program_shell.specs.Plans.{Plan, accepts, reads, refuses}

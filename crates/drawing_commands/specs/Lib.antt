@@ -1,5 +1,5 @@
 -- Definitions of a lower crate that public clauses cite.
-pub use Rattle.program_shell.specs.Runs
+pub use Rattle.program_shell.specs.ProgramRuns
 pub use Rattle.program_shell.specs.RunViews
 pub mod FaultTexts
 pub mod LookTexts

@@ -2,7 +2,7 @@
 -- pieces and lines are numbered from 1. Lengths are in tenths of a millimetre, rounded down.
 use Rattle.std.specs.Prelude.{ℕ, ◌+◌, ◌/◌, List, [], ◌∷◌, ◌++◌, codes, decimal, length}
 use Rattle.std.specs.Fmt.{signed_decimal}
-use Rattle.lists_and_numbers.specs.TextLines.{newline}
+use Rattle.design_model.specs.TextLines.{newline}
 use Rattle.drawing_review.specs.declared.place.Place.{Place}
 use Rattle.drawing_review.specs.declared.place.PlaceKind.{PlaceKind}
 use Rattle.drawing_review.specs.declared.place.PlaceKind.TheVariants as place

@@ -1,8 +1,8 @@
 -- What the arguments of stitch_drawing request: a command and its arguments.
 use Rattle.std.specs.Prelude.{ℕ, ◌≤◌, pos, negsuc, List, [], ◌∷◌, Option, Some, None, IsSome, bytes_eq, codes, length, map, nat_le, option_map, string_bytes, if◌then◌else◌}
-use Rattle.lists_and_numbers.specs.declared.whole_number.Whole.{Whole}
-use Rattle.lists_and_numbers.specs.declared.whole_number.Whole.TheVariants as whole
-use Rattle.lists_and_numbers.specs.WholeNumbers.{parsed_whole}
+use Rattle.design_model.specs.declared.whole_number.Whole.{Whole}
+use Rattle.design_model.specs.declared.whole_number.Whole.TheVariants as whole
+use Rattle.design_model.specs.WholeNumbers.{parsed_whole}
 use Rattle.command_words.specs.declared.names.FileNames.{FileNames}
 use Rattle.command_words.specs.Names.{if_named, names_and_rest, two_names}
 use Rattle.command_words.specs.ValidNames.{AreFileNames}

@@ -1,7 +1,7 @@
 -- What `snap` prints: a report, and the text about a drawing that can't be snapped. A name is the
 -- bytes of a file name. Blocks and lines are numbered from 1.
 use Rattle.std.specs.Prelude.{ℕ, ◌+◌, List, ◌++◌, codes, decimal}
-use Rattle.lists_and_numbers.specs.TextLines.{newline}
+use Rattle.design_model.specs.TextLines.{newline}
 use Rattle.drawing_repairs.specs.declared.snap_fault.SnapFault.{SnapFault}
 use Rattle.drawing_repairs.specs.declared.snap_fault.SnapFault.TheVariants as fault
 use Rattle.program_shell.specs.FileTexts.{text_about}

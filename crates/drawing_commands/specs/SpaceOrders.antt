@@ -4,12 +4,12 @@ use Rattle.std.specs.Prelude.{ℕ, List, ◌++◌, length, Result, Ok, Err}
 use Rattle.spaced_lines.specs.declared.spaced_drawing.SpacedDrawing.{SpacedDrawing}
 use Rattle.spaced_lines.specs.SpacedDrawings.{space_of}
 use Rattle.drawing_text.specs.declared.draw_fault.DrawFault.{DrawFault}
-use Rattle.drawing_inputs.specs.declared.drawing_lines.LinesRead.{LinesRead}
-use Rattle.drawing_inputs.specs.DrawingLines.{lines_read}
-use Rattle.drawing_model.specs.declared.draw_kind.DrawKind.{DrawKind}
+use Rattle.program_inputs.specs.declared.drawing_lines.LinesRead.{LinesRead}
+use Rattle.program_inputs.specs.DrawingLines.{lines_read}
+use Rattle.line_graph.specs.declared.draw_kind.DrawKind.{DrawKind}
 use Rattle.line_graph.specs.declared.piece.Piece.{Piece}
-use Rattle.drawing_model.specs.Drawings.{DrawingValue}
-use Rattle.drawing_model.specs.GrowingDrawings.{point_count, step_count}
+use Rattle.line_graph.specs.Drawings.{DrawingValue}
+use Rattle.line_graph.specs.GrowingDrawings.{point_count, step_count}
 use Rattle.line_graph.specs.PiecesOfDrawings.{ArePiecesOf}
 use Rattle.program_shell.specs.FileTexts.{text_about}
 use Rattle.program_shell.specs.Plans.{Plan, accepts, reads, refuses}

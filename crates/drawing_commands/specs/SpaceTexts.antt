@@ -1,6 +1,6 @@
 -- The report of `space`. Costs count steps.
 use Rattle.std.specs.Prelude.{ℕ, List, ◌++◌, codes, decimal}
-use Rattle.lists_and_numbers.specs.TextLines.{newline}
+use Rattle.design_model.specs.TextLines.{newline}
 
 -- The numbers of points before and after.
 abbrev pub point_change_text : (before after : ℕ) → List ℕ

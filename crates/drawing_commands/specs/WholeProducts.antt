@@ -1,8 +1,8 @@
 -- Drawings whose lines are written whole, as they are drawn, with starts and ends.
 use Rattle.std.specs.Prelude.{◌≡◌, ℕ, List, Ok}
-use Rattle.drawing_model.specs.Drawings.{DrawingValue}
-use Rattle.drawing_model.specs.EndOrders.{HasOrderedEnds}
-use Rattle.drawing_model.specs.WalkEnds.{HasNoEnds}
+use Rattle.line_graph.specs.Drawings.{DrawingValue}
+use Rattle.line_graph.specs.EndOrders.{HasOrderedEnds}
+use Rattle.line_graph.specs.WalkEnds.{HasNoEnds}
 use Rattle.drawing_text.specs.DrawingText.{drawing_of}
 use Rattle.drawing_text.specs.DrawnTexts.{drawing_as_drawn}
 use Rattle.drawing_text.specs.EndTexts.{drawn_text, with_ends_of}

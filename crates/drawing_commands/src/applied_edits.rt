@@ -1,16 +1,16 @@
+ghost use Rattle.design_model.specs.OutOfMemory.{IsSpecified};
 ghost use Rattle.drawing_commands.specs.DrawingEditWords.{drawing_edits_of, parsed_drawing_edit, parsed_drawing_edits};
 ghost use Rattle.drawing_commands.specs.DrawingEditing.{bad_edit_is_out_of_memory, edits_applied};
 ghost use Rattle.drawing_edits.specs.EditFaults.{edit_is_out_of_memory};
 ghost use Rattle.drawing_edits.specs.EditedDrawings.{IsDrawingEdit, edited_drawing};
-ghost use Rattle.drawing_model.specs.EndOrders.{HasOrderedEnds};
-ghost use Rattle.drawing_model.specs.JoinedDrawings.{is_joined};
-ghost use Rattle.lists_and_numbers.specs.OutOfMemory.{IsSpecified};
+ghost use Rattle.line_graph.specs.EndOrders.{HasOrderedEnds};
+ghost use Rattle.line_graph.specs.JoinedDrawings.{is_joined};
 ghost use Rattle.std.specs.Prelude.{◌≡◌, ◌∷◌, ◌≤◌, IfOk, IfSome, IsSome, length, map, string_bytes, true};
 
 use crate::bad_edit::BadEdit;
 use crate::drawing_edit_words::parse_drawing_edit;
 use drawing_edits::{DrawingEdit, EditFault, edit_drawing, edits_keep_ends_by_block};
-use drawing_model::Drawing;
+use line_graph::Drawing;
 use std::alloc::Global;
 
 /// Returns the drawing after the edits that the arguments represent, in order.

@@ -5,10 +5,9 @@ ghost use Rattle.drawing_edits.specs.EditedDrawings.{IsDrawingEdit};
 ghost use Rattle.std.specs.Prelude.{◌≡◌, IfSome, Some, is_some, map, string_bytes};
 
 use command_words::{Edit, parse_edit, parse_natural, parse_point, split_once};
-use design_edits::Motion;
 use design_model::NEEDLE_LIMIT;
 use drawing_edits::DrawingEdit;
-use drawing_model::{MAX_LINES, MAX_STEP};
+use line_graph::{MAX_LINES, MAX_STEP};
 
 /// Parses an edit of a drawing: `shift=DX,DY`, `turn=Q`, `mirror=x`, `mirror=y`, `centre`, `step=N`,
 /// `order=P,Q`, `start=X,Y` or `end=X,Y`.
@@ -59,9 +58,7 @@ fn moving(edit: Edit) -> Option<DrawingEdit>
     ensures small { IfSome result IsDrawingEdit }
 {
     match edit {
-        Edit::Shift(by) => Some(DrawingEdit::Move(Motion::Shift { dx: by.x, dy: by.y })),
-        Edit::Turn { quarters } => Some(DrawingEdit::Move(Motion::Turn { quarters })),
-        Edit::Mirror(axis) => Some(DrawingEdit::Move(Motion::Mirror(axis))),
+        Edit::Move(by) => Some(DrawingEdit::Move(by)),
         Edit::Thread {
             place: _,
             thread: _,

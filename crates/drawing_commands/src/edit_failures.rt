@@ -4,9 +4,9 @@ ghost use Rattle.program_shell.specs.StepOutcomes.{IsFaultFailure, IsRefusalWith
 ghost use Rattle.std.specs.Prelude.{◌≡◌, ◌++◌, IfOk, codes, decimal, string_bytes};
 
 use crate::bad_edit::BadEdit;
+use design_model::Memory;
 use drawing_edits::EditFault;
-use drawing_model::DrawKind;
-use lists_and_numbers::Memory;
+use line_graph::DrawKind;
 use program_shell::{Failure, describe_part, refused};
 use program_texts::describe_kind;
 use std::alloc::Global;

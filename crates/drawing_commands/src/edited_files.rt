@@ -1,20 +1,19 @@
 ghost use Rattle.drawing_commands.specs.DrawingEditing.{IsEdited};
-ghost use Rattle.drawing_model.specs.EndOrders.{HasOrderedEnds};
-ghost use Rattle.drawing_model.specs.JoinedDrawings.{is_joined};
 ghost use Rattle.drawing_text.specs.DrawingText.{drawing_of};
 ghost use Rattle.drawing_text.specs.EndTexts.{drawn_text};
+ghost use Rattle.line_graph.specs.EndOrders.{HasOrderedEnds};
+ghost use Rattle.line_graph.specs.JoinedDrawings.{is_joined};
 ghost use Rattle.outside_io.specs.Files.{IsFileName};
 ghost use Rattle.program_shell.specs.Plans.{accepts};
 ghost use Rattle.program_shell.specs.Products.{product_value};
 ghost use Rattle.program_shell.specs.StepOutcomes.{RunsPurePlan};
 ghost use Rattle.std.specs.Prelude.{◌≡◌, Ok, IfOk, true};
 
-use drawing_model::{Drawing, joined_drawings_stay};
+use design_model::{Bytes, Memory};
 use drawing_text::print_drawn;
-use line_graph::pieces;
-use lists_and_numbers::{Bytes, Memory};
+use line_graph::{Drawing, joined_drawings_stay, pieces};
 use program_shell::{Made, Product, one_output};
-use program_texts::print_migration;
+use program_texts::describe_migration;
 use std::alloc::Global;
 
 /// Makes the file of an edited drawing, and the report on it.
@@ -38,7 +37,7 @@ fn edited_product<'a>(
     ensures { IfOk result (λ product. IsEdited output.now drawing.now (product_value product)) }
 {
     let pieces = pieces(alloc, drawing)?;
-    let report = print_migration(alloc, drawing, pieces.len())?;
+    let report = describe_migration(alloc, drawing, pieces.len())?;
     let content = text_of(alloc, drawing)?;
     let product = one_output(alloc, output, content, report)?;
     Ok(product)

@@ -1,7 +1,7 @@
 ghost use Rattle.command_words.specs.ValidNames.{AreFileNames};
 ghost use Rattle.drawing_commands.specs.DrawingEditWords.{drawing_edits_of, parsed_drawing_edits};
 ghost use Rattle.drawing_commands.specs.DrawingEditing.{drawing_edit_order, drawing_edit_plan, edited_plan, edits_applied};
-ghost use Rattle.drawing_model.specs.EndOrders.{HasOrderedEnds};
+ghost use Rattle.line_graph.specs.EndOrders.{HasOrderedEnds};
 ghost use Rattle.program_shell.specs.StepOutcomes.{RunsPlan, RunsPurePlan};
 ghost use Rattle.std.specs.Prelude.{◌≤◌, IsSome, length, map, string_bytes};
 
@@ -9,10 +9,10 @@ use crate::applied_edits::edited;
 use crate::edit_failures::edit_failure;
 use crate::edited_files::written;
 use command_words::FileNames;
-use drawing_inputs::drawing_in;
-use drawing_model::Drawing;
 use drawing_text::texts_order_ends;
+use line_graph::Drawing;
 use outside_io::Store;
+use program_inputs::drawing_in;
 use program_shell::Made;
 use std::alloc::Global;
 

@@ -1,18 +1,18 @@
-ghost use Rattle.drawing_commands.specs.LookTexts.{lengths_text, look_piece_line, look_piece_lines, look_report, piece_counts_text, piece_title, place_line_text, place_lines, place_name, place_point_text, stitches_text};
+ghost use Rattle.drawing_commands.specs.LookTexts.{lengths_text, look_piece_line, look_piece_lines, look_report, place_line_text, place_lines, place_name, place_point_text, stitches_text};
 ghost use Rattle.line_graph.specs.PieceGraphs.{odd_junctions};
 ghost use Rattle.line_graph.specs.PiecesOfDrawings.{graph_of};
 ghost use Rattle.piece_stitches.specs.PieceStitches.{HasSmallTotals};
 ghost use Rattle.std.specs.Prelude.{◌≡◌, ◌++◌, ◌+◌, IfOk, OnOk, codes, decimal, length, string_bytes};
 
+use design_model::{Bytes, Memory};
 use drawing_review::{Place, PlaceKind};
 use line_graph::Piece;
-use lists_and_numbers::{Bytes, Memory};
 use odd_paths::odd;
 use piece_stitches::{PieceStitches, StitchSummary, thread_of, travel_of};
 use std::alloc::Global;
 
 /// Returns the report of `look` on pieces, with their stitches, and on places.
-pub fn print_look(
+pub fn describe_look(
     alloc: Global,
     pieces: &[Piece],
     stitches: &[PieceStitches],

@@ -5,13 +5,13 @@ ghost use Rattle.program_shell.specs.Products.{product_value};
 ghost use Rattle.program_shell.specs.StepOutcomes.{RunsPlan, RunsPurePlan};
 ghost use Rattle.std.specs.Prelude.{IfOk};
 
-use crate::look_texts::print_look;
-use drawing_inputs::{LinesRead, lines_in};
+use crate::look_texts::describe_look;
+use design_model::Memory;
 use drawing_review::review;
 use line_graph::pieces;
-use lists_and_numbers::Memory;
 use outside_io::Store;
 use piece_stitches::piece_stitches;
+use program_inputs::{LinesRead, lines_in};
 use program_shell::{Made, Product, only_report};
 use std::alloc::Global;
 
@@ -39,7 +39,7 @@ fn look_product<'a>(alloc: Global, gap: u16, read: &LinesRead) -> Result<Product
     let stitches = piece_stitches(alloc, &read.drawing, pieces.as_slice())?;
     let lines = &read.drawn.drawing;
     let places = review(alloc, lines.step(), gap, lines.lines())?;
-    let report = print_look(
+    let report = describe_look(
         alloc,
         pieces.as_slice(),
         stitches.as_slice(),

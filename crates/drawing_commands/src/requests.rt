@@ -1,13 +1,13 @@
 ghost use Rattle.command_words.specs.Names.{names_and_rest};
 ghost use Rattle.command_words.specs.ValidNames.{AreFileNames, file_names_value};
+ghost use Rattle.design_model.specs.WholeNumbers.{parsed_whole};
+ghost use Rattle.design_model.specs.declared.whole_number.Whole.TheVariants as whole;
 ghost use Rattle.drawing_commands.specs.Requests.{HasFileNames, drawing_order_of, gap_of, if_apart, order_of_request, parsed_drawing_edit_request, parsed_look, parsed_snap};
-ghost use Rattle.lists_and_numbers.specs.WholeNumbers.{parsed_whole};
-ghost use Rattle.lists_and_numbers.specs.declared.whole_number.Whole.TheVariants as whole;
 ghost use Rattle.std.specs.Prelude.{◌≡◌, Some, IfSome, map, option_map, string_bytes};
 
 use crate::drawing_edit_words::are_drawing_edits;
 use command_words::{FileNames, file_name, file_names, named_rest};
-use lists_and_numbers::{Whole, parse_whole};
+use design_model::{Whole, parse_whole};
 
 /// The gap where none is given, in tenths of a millimetre.
 const DEFAULT_GAP: u16 = 2;

@@ -1,7 +1,7 @@
 ghost use Rattle.drawing_commands.specs.Commands.{drawing_usage_text, stitch_drawing};
 ghost use Rattle.drawing_commands.specs.Requests.{drawing_order_of};
+ghost use Rattle.program_shell.specs.ProgramRuns.{RunEnds};
 ghost use Rattle.program_shell.specs.RunViews.{views_of};
-ghost use Rattle.program_shell.specs.Runs.{RunEnds};
 ghost use Rattle.std.specs.Prelude.{◌≡◌, codes, map, string_bytes};
 
 use crate::commands::make_product;

@@ -3,15 +3,15 @@ ghost use Rattle.drawing_repairs.specs.Snaps.{snap_is_out_of_memory};
 ghost use Rattle.program_shell.specs.StepOutcomes.{IsFaultFailure, IsRefusalWith};
 ghost use Rattle.std.specs.Prelude.{◌≡◌, IfOk, string_bytes};
 
-use drawing_model::DrawKind;
+use design_model::{Bytes, Memory};
 use drawing_repairs::{SnapFault, VanishedLine};
-use lists_and_numbers::{Bytes, Memory};
+use line_graph::DrawKind;
 use program_shell::{Failure, bytes_of, describe_file, refused};
 use program_texts::kind_text;
 use std::alloc::Global;
 
 /// Returns the report of `snap`.
-pub fn print_snap(
+pub fn describe_snap(
     alloc: Global,
     moved: usize,
     listed: usize,

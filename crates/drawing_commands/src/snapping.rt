@@ -1,21 +1,20 @@
 ghost use Rattle.command_words.specs.ValidNames.{AreFileNames};
 ghost use Rattle.drawing_commands.specs.SnapOrders.{IsSnapProduct, snap_lines, snap_order, snap_plan};
 ghost use Rattle.drawing_commands.specs.WholeProducts.{IsWhole};
-ghost use Rattle.drawing_model.specs.EndOrders.{HasOrderedEnds};
 ghost use Rattle.drawing_repairs.specs.SecondSnaps.{StaysSnapped};
+ghost use Rattle.line_graph.specs.EndOrders.{HasOrderedEnds};
 ghost use Rattle.program_shell.specs.Products.{product_value};
 ghost use Rattle.program_shell.specs.StepOutcomes.{RunsPlan, RunsPurePlan};
 ghost use Rattle.std.specs.Prelude.{ℕ, IfOk};
 
-use crate::snap_texts::{print_snap, snap_failure};
+use crate::snap_texts::{describe_snap, snap_failure};
 use crate::whole_files::whole_product;
 use command_words::FileNames;
-use drawing_inputs::{LinesRead, lines_in};
-use drawing_model::Drawing;
+use design_model::Memory;
 use drawing_repairs::{SnappedDrawing, snap};
-use line_graph::pieces;
-use lists_and_numbers::Memory;
+use line_graph::{Drawing, pieces};
 use outside_io::Store;
+use program_inputs::{LinesRead, lines_in};
 use program_shell::{Made, Product};
 use std::alloc::Global;
 
@@ -69,7 +68,7 @@ fn snap_product<'a>(
 {
     let before = pieces(alloc, drawing)?;
     let after = pieces(alloc, &snapped.joined)?;
-    let report = print_snap(
+    let report = describe_snap(
         alloc,
         snapped.moved.len(),
         snapped.listed.len(),

@@ -1,13 +1,13 @@
 ghost use Rattle.drawing_commands.specs.SpaceOrders.{space_report};
 ghost use Rattle.drawing_commands.specs.SpaceTexts.{cost_change_text, point_change_text};
-ghost use Rattle.drawing_model.specs.GrowingDrawings.{draw_is_out_of_memory, point_count};
+ghost use Rattle.line_graph.specs.GrowingDrawings.{draw_is_out_of_memory, point_count};
 ghost use Rattle.program_shell.specs.FileTexts.{text_about};
 ghost use Rattle.program_shell.specs.StepOutcomes.{IsFaultFailure, IsRefusalWith};
 ghost use Rattle.program_texts.specs.DrawingTexts.{draw_kind_text};
 ghost use Rattle.std.specs.Prelude.{◌≡◌, IfOk, string_bytes};
 
-use drawing_model::{DrawKind, Drawing, drawing_cost};
-use lists_and_numbers::{Bytes, Memory};
+use design_model::{Bytes, Memory};
+use line_graph::{DrawKind, Drawing, drawing_cost};
 use program_shell::{Failure, bytes_of, describe_file, refused};
 use program_texts::kind_text;
 use std::alloc::Global;

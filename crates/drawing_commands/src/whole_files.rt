@@ -2,9 +2,9 @@ ghost use Rattle.drawing_commands.specs.WholeProducts.{IsWholeProduct, IsWhole};
 ghost use Rattle.program_shell.specs.Products.{product_value};
 ghost use Rattle.std.specs.Prelude.{IfOk};
 
-use drawing_model::Drawing;
+use design_model::{Bytes, Memory};
 use drawing_text::print_drawn;
-use lists_and_numbers::{Bytes, Memory};
+use line_graph::Drawing;
 use program_shell::{Product, one_output};
 use std::alloc::Global;
 

@@ -1,7 +1,7 @@
 -- Drawn lines that are joined with starts and ends: the result has their sections and these starts and ends.
 use Rattle.std.proofs.Common.{◌≡◌, ◌∙◌, Bool, true, false, not, nat_lt, List, [], ◌∷◌, ◌++◌, Result, Ok, Err, IfOk, length, refl, ap, sym, subst, append_assoc, append-nil, All, if◌then◌else◌, arith}
 use Rattle.drawing_edits.proofs.Names.{nat_tests, All-head, All-nil, IfOk-at_ok, IfOk-weaker, list_any, with_starts_and_ends, with_walk_ends, DrawKind, MAX_LINES, MAX_POINTS, DrawingValue, and_then, point_count, joined_drawing, HasNoEnds, is_junction, Spot, LineValue, after_both, All-cons, are_connected_spots, spot_added, walk_end_added}
-use Rattle.drawing_model.specs.declared.draw_kind.DrawKind.TheVariants as kind
+use Rattle.line_graph.specs.declared.draw_kind.DrawKind.TheVariants as kind
 use Rattle.line_sections.specs.Sections.{all_sections}
 
 -- A drawing with further starts where the flag is true, else with further ends.

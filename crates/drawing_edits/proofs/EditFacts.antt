@@ -3,7 +3,7 @@ use Rattle.std.proofs.Common.{◌≡◌, ℤ, pos, negsuc, [], ◌∷◌, Some, 
 use Rattle.drawing_edits.proofs.Names.{Point, DrawingValue, centred_drawing, redrawn, middle_of, mirrored_drawing, shifted_drawing, turned_drawing}
 use Rattle.design_edits.specs.declared.axis.Axis.TheVariants as axis
 use Rattle.design_edits.specs.declared.motion.Motion.TheVariants as motion
-use Rattle.drawing_model.specs.declared.draw_kind.DrawKind.TheVariants as kind
+use Rattle.line_graph.specs.declared.draw_kind.DrawKind.TheVariants as kind
 use Rattle.drawing_edits.specs.declared.drawing_edit.DrawingEdit.TheVariants as edit
 use Rattle.drawing_edits.specs.declared.edit_fault.EditFault.TheVariants as fault
 use Rattle.drawing_edits.specs.EditedDrawings.{edited_drawing}

@@ -2,7 +2,7 @@
 use Rattle.std.proofs.Common.{◌≡◌, ℕ, zero, suc, ◌+◌, ◌-◌, ◌<◌, ◌≤◌, ◌==◌, Bool, true, false, ◌||◌, nat_lt, List, [], ◌∷◌, ◌++◌, length, map, Result, Ok, All, Contains, if◌then◌else◌, refl, ap, sym, subst, ◌∙◌, arith, append_assoc, append-nil}
 use Rattle.std.proofs.lemmas.List.Folds.{list_any-append}
 use Rattle.drawing_edits.proofs.Names.{Decides-eqb, nat_tests, length-append, All-head, All-tail, list_any, LineValue, DrawKind, MAX_BLOCKS, MAX_LINES, MAX_POINTS, DrawingValue, IsLine, and_then, block_added, empty_drawing, finished_drawing, is_last_empty, point_count, with_new_block, with_new_line, line_added_if, with_blocks, with_lines_of, or_left, or_right, list_all-from_AllPass, sum_by-append, sum_by-cons, is_point_within, MAX_COST, all_in_needle_range, has_repeated_point, line_added, step_count, LinesWithinLimitsAreDrawn, none_repeats}
-use Rattle.drawing_model.specs.Needles.{steps_of_line}
+use Rattle.line_graph.specs.Needles.{steps_of_line}
 use Rattle.drawing_edits.proofs.BlockGroupLemmas.{grouped, in_block, in_order, rise_all}
 
 -- A drawing has room for more lines that can be sewn.

@@ -30,21 +30,21 @@ pub use Rattle.drawing_edits.specs.RedrawnDrawings.{drawn_lines, line_added_if, 
 pub use Rattle.drawing_edits.specs.RedrawnDrawings.{with_starts_and_ends, with_walk_ends}
 pub use Rattle.drawing_edits.specs.ValidRedraws.{LinesInOrderAreDrawn, LinesWithinLimitsAreDrawn, ValidDrawingsAreRedrawn}
 pub use Rattle.drawing_edits.specs.declared.edit_fault.EditFault.{EditFault}
-pub use Rattle.drawing_model.proofs.CallerLemmas.{after_both, finished_none, joined_none, none_repeats, spot_comes}
-pub use Rattle.drawing_model.specs.Drawings.{DrawingValue, IsLine, KeepsDrawingLimits, block_of, endpoints, first_point}
-pub use Rattle.drawing_model.specs.Drawings.{optional_line_block, optional_line_points, points_of}
-pub use Rattle.drawing_model.specs.EndOrders.{AreInBlockOrder, HasOrderedEnds}
-pub use Rattle.drawing_model.specs.GrowingDrawings.{all_in_needle_range, and_then, block_added, empty_drawing, finished_drawing}
-pub use Rattle.drawing_model.specs.GrowingDrawings.{has_repeated_point, is_last_empty, line_added, point_count, step_count, steps_with_line}
-pub use Rattle.drawing_model.specs.GrowingDrawings.{with_new_block, with_new_line}
-pub use Rattle.drawing_model.specs.JoinedDrawings.{JoinedDrawingsStay, joined_drawing}
-pub use Rattle.drawing_model.specs.WalkEnds.{AreInDifferentPieces, HasNoEnds, are_connected_spots, has_end_at_spot, is_junction}
-pub use Rattle.drawing_model.specs.WalkEnds.{representative, spot_added, walk_end_added}
-pub use Rattle.drawing_model.specs.declared.draw_kind.DrawKind.{DrawKind}
-pub use Rattle.drawing_model.specs.declared.limits.TheConstants.{MAX_BLOCKS, MAX_COST, MAX_LINES, MAX_POINTS}
+pub use Rattle.line_graph.proofs.DrawingLemmas.{after_both, finished_none, joined_none, none_repeats, spot_comes}
+pub use Rattle.line_graph.specs.Drawings.{DrawingValue, IsLine, KeepsDrawingLimits, block_of, endpoints, first_point}
+pub use Rattle.line_graph.specs.Drawings.{optional_line_block, optional_line_points, points_of}
+pub use Rattle.line_graph.specs.EndOrders.{AreInBlockOrder, HasOrderedEnds}
+pub use Rattle.line_graph.specs.GrowingDrawings.{all_in_needle_range, and_then, block_added, empty_drawing, finished_drawing}
+pub use Rattle.line_graph.specs.GrowingDrawings.{has_repeated_point, is_last_empty, line_added, point_count, step_count, steps_with_line}
+pub use Rattle.line_graph.specs.GrowingDrawings.{with_new_block, with_new_line}
+pub use Rattle.line_graph.specs.JoinedDrawings.{JoinedDrawingsStay, joined_drawing}
+pub use Rattle.line_graph.specs.WalkEnds.{AreInDifferentPieces, HasNoEnds, are_connected_spots, has_end_at_spot, is_junction}
+pub use Rattle.line_graph.specs.WalkEnds.{representative, spot_added, walk_end_added}
+pub use Rattle.line_graph.specs.declared.draw_kind.DrawKind.{DrawKind}
+pub use Rattle.line_graph.specs.declared.limits.TheConstants.{MAX_BLOCKS, MAX_COST, MAX_LINES, MAX_POINTS}
 pub use Rattle.line_graph.specs.Pieces.{AreConnected, ArePieces, first_line}
 pub use Rattle.line_sections.specs.Lines.{LineValue, points_of_lines}
 pub use Rattle.line_sections.specs.declared.spot.Spot.{Spot}
-pub use Rattle.lists_and_numbers.proofs.CallerLemmas.{all_concat, concat_has, differs, filter_has, filter_skips, filter_takes, map_has}
-pub use Rattle.lists_and_numbers.proofs.CallerLemmas.{number_found, range_rises, same_number}
+pub use Rattle.design_model.proofs.ListLemmas.{all_concat, concat_has, differs, filter_has, filter_skips, filter_takes, map_has}
+pub use Rattle.design_model.proofs.ListLemmas.{number_found, range_rises, same_number}
 pub use Rattle.step_splitter.specs.Chains.{IsNeedlePoint, last_point_or}

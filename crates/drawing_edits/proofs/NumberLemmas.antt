@@ -1,7 +1,7 @@
 -- Pieces by their numbers.
 use Rattle.std.proofs.Common.{Contains, ◌≡◌, ℕ, ◌-◌, ◌<◌, ◌++◌, zero, suc, All, get_or, length, arith, List, [], ◌∷◌, Some, option_map, slice_get, Result, Ok, ap, sym, ◌∙◌}
 use Rattle.drawing_edits.proofs.Names.{All-contains, slice_get-map, concat, EditFault, drawn_from, found_piece, ordered_lines, piece_put_before, pieces_in_order, DrawingValue, and_then, All-contains_itself, All-weaker, Contains-append_left, Contains-append_right, edit_is_out_of_memory, IsPieceOf, numbered_piece}
-use Rattle.lists_and_numbers.specs.OutOfMemory.{IsSpecified}
+use Rattle.design_model.specs.OutOfMemory.{IsSpecified}
 use Rattle.line_graph.specs.declared.piece.Piece.{Piece}
 use Rattle.line_graph.specs.PieceGraphs.{PieceValue}
 use Rattle.line_graph.specs.PiecesOfDrawings.{ArePiecesOf, lines_of_pieces}

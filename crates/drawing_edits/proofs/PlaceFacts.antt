@@ -1,7 +1,7 @@
 -- Worked values of starts put at points, and of pieces put in another order.
 use Rattle.std.proofs.Common.{◌≡◌, ℕ, pos, List, [], ◌∷◌, Ok, Err, true, false, refl}
 use Rattle.drawing_edits.proofs.Names.{Point, DrawingValue, Spot, LineValue, end_placed, order_with_piece, piece_put_before, pieces_in_order}
-use Rattle.drawing_model.specs.declared.draw_kind.DrawKind.TheVariants as kind
+use Rattle.line_graph.specs.declared.draw_kind.DrawKind.TheVariants as kind
 use Rattle.drawing_edits.specs.declared.edit_fault.EditFault.TheVariants as fault
 
 -- the point with those numbers

@@ -1,7 +1,7 @@
 -- Worked values of lines that are drawn again.
 use Rattle.std.proofs.Common.{◌≡◌, ℕ, pos, List, [], ◌∷◌, Ok, Err, refl}
 use Rattle.drawing_edits.proofs.Names.{Point, DrawingValue, Spot, LineValue, drawn_lines, redrawn}
-use Rattle.drawing_model.specs.declared.draw_kind.DrawKind.TheVariants as kind
+use Rattle.line_graph.specs.declared.draw_kind.DrawKind.TheVariants as kind
 
 -- a point on the x axis
 abbrev at : ℕ → Point

@@ -2,9 +2,9 @@
 use Rattle.std.specs.Prelude.{Bool, false, Result, Ok, Err}
 use Rattle.drawing_edits.specs.declared.edit_fault.EditFault.{EditFault}
 use Rattle.drawing_edits.specs.declared.edit_fault.EditFault.TheVariants as fault
-use Rattle.drawing_model.specs.declared.draw_kind.DrawKind.{DrawKind}
-use Rattle.drawing_model.specs.Drawings.{DrawingValue}
-use Rattle.drawing_model.specs.GrowingDrawings.{draw_is_out_of_memory}
+use Rattle.line_graph.specs.declared.draw_kind.DrawKind.{DrawKind}
+use Rattle.line_graph.specs.Drawings.{DrawingValue}
+use Rattle.line_graph.specs.GrowingDrawings.{draw_is_out_of_memory}
 
 -- A fault is out of memory: memory could not be allocated.
 abbrev pub edit_is_out_of_memory : EditFault → Bool

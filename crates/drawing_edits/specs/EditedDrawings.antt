@@ -9,7 +9,7 @@ use Rattle.drawing_edits.specs.MovedDrawings.{centred_drawing, moved_drawing}
 use Rattle.drawing_edits.specs.PieceOrders.{piece_put_before}
 use Rattle.drawing_edits.specs.PlacedEnds.{end_placed}
 use Rattle.drawing_edits.specs.RedrawnDrawings.{redrawn}
-use Rattle.drawing_model.specs.Drawings.{DrawingValue}
+use Rattle.line_graph.specs.Drawings.{DrawingValue}
 use Rattle.step_splitter.specs.declared.segment.TheConstants.{MAX_STEP}
 
 -- The drawing after an edit, or why the edit is refused.

@@ -1,8 +1,8 @@
 -- What edits keep of the starts and ends of a drawing.
 use Rattle.std.specs.Prelude.{◌≡◌, ℕ, Bool, Ok}
 use Rattle.design_model.specs.declared.point.Point.{Point}
-use Rattle.drawing_model.specs.Drawings.{DrawingValue}
-use Rattle.drawing_model.specs.EndOrders.{HasOrderedEnds}
+use Rattle.line_graph.specs.Drawings.{DrawingValue}
+use Rattle.line_graph.specs.EndOrders.{HasOrderedEnds}
 use Rattle.drawing_edits.specs.declared.drawing_edit.DrawingEdit.{DrawingEdit}
 use Rattle.drawing_edits.specs.EditedDrawings.{edited_drawing}
 use Rattle.drawing_edits.specs.PlacedEnds.{end_placed, with_end_at}

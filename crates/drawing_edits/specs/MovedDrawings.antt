@@ -8,7 +8,7 @@ use Rattle.design_model.specs.declared.bounds.Extent.{Extent}
 use Rattle.design_model.specs.declared.point.Point.{Point}
 use Rattle.design_model.specs.Extents.{extent_of_points}
 use Rattle.design_model.specs.Points.{origin}
-use Rattle.drawing_model.specs.Drawings.{DrawingValue}
+use Rattle.line_graph.specs.Drawings.{DrawingValue}
 use Rattle.line_sections.specs.declared.spot.Spot.{Spot}
 use Rattle.line_sections.specs.Lines.{LineValue, points_of_lines}
 use Rattle.step_splitter.specs.Chains.{IsNeedlePoint}

@@ -9,10 +9,10 @@ use Rattle.drawing_edits.specs.declared.edit_fault.EditFault.TheVariants as faul
 use Rattle.drawing_edits.specs.EditFaults.{edit_answer}
 use Rattle.drawing_edits.specs.RedrawnDrawings.{redrawn}
 use Rattle.line_graph.specs.declared.piece.Piece.{Piece}
-use Rattle.drawing_model.specs.Drawings.{DrawingValue, KeepsDrawingLimits, block_of, first_point, points_of}
-use Rattle.drawing_model.specs.GrowingDrawings.{and_then}
+use Rattle.line_graph.specs.Drawings.{DrawingValue, KeepsDrawingLimits, block_of, first_point, points_of}
+use Rattle.line_graph.specs.GrowingDrawings.{and_then}
 use Rattle.line_graph.specs.Pieces.{ArePieces, first_line}
-use Rattle.drawing_model.specs.WalkEnds.{are_connected_spots}
+use Rattle.line_graph.specs.WalkEnds.{are_connected_spots}
 use Rattle.line_sections.specs.declared.spot.Spot.{Spot}
 use Rattle.line_sections.specs.Lines.{LineValue}
 

@@ -2,12 +2,12 @@
 -- the ends of a value, or the first fault. A valid joined drawing is drawn again as it is.
 use Rattle.std.specs.Prelude.{◌≡◌, ℕ, ◌+◌, ◌==◌, Bool, true, false, List, [], ◌∷◌, Result, Ok, Err}
 use Rattle.design_model.specs.declared.point.Point.{Point}
-use Rattle.lists_and_numbers.specs.OutOfMemory.{IsSpecified}
-use Rattle.drawing_model.specs.declared.draw_kind.DrawKind.{DrawKind}
-use Rattle.drawing_model.specs.Drawings.{DrawingValue}
-use Rattle.drawing_model.specs.GrowingDrawings.{and_then, block_added, draw_is_out_of_memory, empty_drawing, finished_drawing, line_added}
-use Rattle.drawing_model.specs.JoinedDrawings.{joined_drawing}
-use Rattle.drawing_model.specs.WalkEnds.{walk_end_added}
+use Rattle.design_model.specs.OutOfMemory.{IsSpecified}
+use Rattle.line_graph.specs.declared.draw_kind.DrawKind.{DrawKind}
+use Rattle.line_graph.specs.Drawings.{DrawingValue}
+use Rattle.line_graph.specs.GrowingDrawings.{and_then, block_added, draw_is_out_of_memory, empty_drawing, finished_drawing, line_added}
+use Rattle.line_graph.specs.JoinedDrawings.{joined_drawing}
+use Rattle.line_graph.specs.WalkEnds.{walk_end_added}
 use Rattle.line_sections.specs.declared.spot.Spot.{Spot}
 use Rattle.line_sections.specs.Lines.{LineValue}
 

@@ -1,8 +1,8 @@
 -- What is drawn again as it is: the lines of a valid drawing, and all of one that is joined.
 use Rattle.std.specs.Prelude.{◌≡◌, ◌<◌, [], map, length, All, Ok}
 use Rattle.std.specs.List.Sorted.{IsNonDecreasing}
-use Rattle.drawing_model.specs.Drawings.{DrawingValue, KeepsDrawingLimits}
-use Rattle.drawing_model.specs.GrowingLimits.{IsValidJoinedDrawing}
+use Rattle.line_graph.specs.Drawings.{DrawingValue, KeepsDrawingLimits}
+use Rattle.line_graph.specs.GrowingLimits.{IsValidJoinedDrawing}
 use Rattle.drawing_edits.specs.RedrawnDrawings.{drawn_lines, redrawn}
 
 -- Lines within the limits of a drawing are drawn again as they are, without starts and ends.

@@ -1,10 +1,10 @@
 ghost use Rattle.design_edits.specs.Motions.{is_small_motion, motion_map};
+ghost use Rattle.design_model.specs.OutOfMemory.{IsSpecified};
 ghost use Rattle.drawing_edits.specs.EditFaults.{edit_answer, edit_is_out_of_memory};
 ghost use Rattle.drawing_edits.specs.EditedDrawings.{IsDrawingEdit, edited_drawing};
 ghost use Rattle.drawing_edits.specs.MovedDrawings.{moved_drawing};
 ghost use Rattle.drawing_edits.specs.RedrawnDrawings.{redrawn};
-ghost use Rattle.drawing_model.specs.JoinedDrawings.{is_joined};
-ghost use Rattle.lists_and_numbers.specs.OutOfMemory.{IsSpecified};
+ghost use Rattle.line_graph.specs.JoinedDrawings.{is_joined};
 ghost use Rattle.std.specs.Prelude.{◌≡◌, ◌≤◌, IfOk, IsTrue, true};
 ghost use Rattle.step_splitter.specs.declared.segment.TheConstants.{MAX_STEP};
 
@@ -16,7 +16,7 @@ use crate::placed_ends::place_end;
 use crate::redrawing::redraw;
 use design_edits::Motion;
 use design_model::Point;
-use drawing_model::Drawing;
+use line_graph::Drawing;
 use std::alloc::Global;
 
 /// An edit of a drawing.

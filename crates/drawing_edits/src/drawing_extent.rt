@@ -9,7 +9,7 @@ ghost use Rattle.std.specs.Prelude.{◌≡◌, ◌≤◌, IfSome, IsTrue, neg_�
 
 use design_edits::Motion;
 use design_model::{Extent, Point};
-use drawing_model::Drawing;
+use line_graph::Drawing;
 use line_sections::lines_extent;
 
 /// Returns the shift that brings the middle of a drawing's points to the origin.

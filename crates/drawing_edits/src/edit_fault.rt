@@ -1,9 +1,9 @@
 ghost use Rattle.drawing_edits.specs.declared.edit_fault.EditFault.TheVariants as fault;
-ghost use Rattle.drawing_model.specs.declared.draw_kind.DrawKind.TheVariants as kind;
+ghost use Rattle.line_graph.specs.declared.draw_kind.DrawKind.TheVariants as kind;
 ghost use Rattle.std.specs.Prelude.{◌≡◌};
 
-use drawing_model::DrawKind;
-use lists_and_numbers::Memory;
+use design_model::Memory;
+use line_graph::DrawKind;
 
 /// Why an edit of a drawing is refused.
 #[derive(Clone, Copy)]

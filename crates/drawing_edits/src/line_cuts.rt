@@ -4,9 +4,8 @@ ghost use Rattle.std.specs.List.{flat_map, position_or_len};
 ghost use Rattle.std.specs.Prelude.{◌≡◌, ◌≤◌, ◌++◌, IfOk, OnOk, length};
 
 use crate::line_lists::put_line;
-use design_model::Point;
-use drawing_model::{Line, Spot};
-use lists_and_numbers::{Items, Memory};
+use design_model::{Items, Memory, Point};
+use line_graph::{Line, Spot};
 use std::alloc::Global;
 
 /// Returns lines, each cut in two at the first place where it lists the spot inside.

@@ -1,8 +1,7 @@
 ghost use Rattle.std.specs.Prelude.{◌≡◌, ◌∷◌, ◌++◌, [], OnOk};
 
-use design_model::{Point, Points};
-use drawing_model::Line;
-use lists_and_numbers::{Items, Memory};
+use design_model::{Items, Memory, Point, Points};
+use line_graph::Line;
 use std::alloc::Global;
 
 /// Adds a line of a block through the given points, in tenths of a millimetre.

@@ -1,13 +1,12 @@
 ghost use Rattle.design_edits.specs.Motions.{is_small_motion, motion_map};
 ghost use Rattle.drawing_edits.specs.MovedDrawings.{with_moved_line, with_moved_spot};
-ghost use Rattle.drawing_model.specs.Drawings.{IsLine};
+ghost use Rattle.line_graph.specs.Drawings.{IsLine};
 ghost use Rattle.std.specs.Prelude.{◌≡◌, All, IfOk, IsTrue, map};
 ghost use Rattle.step_splitter.specs.Chains.{IsNeedlePoint};
 
 use design_edits::Motion;
-use design_model::{Point, Points};
-use drawing_model::{Line, Spot};
-use lists_and_numbers::{Items, Memory};
+use design_model::{Items, Memory, Point, Points};
+use line_graph::{Line, Spot};
 use std::alloc::Global;
 
 /// Returns lines after a motion of their points, in tenths of a millimetre.

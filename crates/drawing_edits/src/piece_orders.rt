@@ -1,20 +1,19 @@
+ghost use Rattle.design_model.specs.OutOfMemory.{IsSpecified};
 ghost use Rattle.drawing_edits.specs.EditFaults.{edit_is_out_of_memory};
 ghost use Rattle.drawing_edits.specs.PieceOrders.{IsPieceOf, drawn_from, line_numbered, lines_outside, lines_with_piece, ordered_lines, piece_put_before, pieces_in_order};
 ghost use Rattle.drawing_edits.specs.declared.edit_fault.EditFault.TheVariants as fault;
-ghost use Rattle.drawing_model.specs.GrowingDrawings.{and_then};
-ghost use Rattle.drawing_model.specs.JoinedDrawings.{is_joined};
+ghost use Rattle.line_graph.specs.GrowingDrawings.{and_then};
+ghost use Rattle.line_graph.specs.JoinedDrawings.{is_joined};
 ghost use Rattle.line_graph.specs.Pieces.{first_line};
 ghost use Rattle.line_graph.specs.PiecesOfDrawings.{lines_of_pieces};
-ghost use Rattle.lists_and_numbers.specs.OutOfMemory.{IsSpecified};
 ghost use Rattle.std.specs.Prelude.{◌≡◌, ◌≤◌, ◌<◌, ◌-◌, ◌++◌, ◌∷◌, [], All, IfErr, IfOk, None, OnOk, Some, length, map, slice_get, true};
 
 use crate::edit_fault::EditFault;
 use crate::line_lists::put_line;
 use crate::order_theorems::pieces_in_order_are_pieces;
 use crate::redrawing::redraw;
-use drawing_model::{Drawing, Line};
-use line_graph::{Piece, pieces, pieces_are_unique};
-use lists_and_numbers::{Items, Memory};
+use design_model::{Items, Memory};
+use line_graph::{Drawing, Line, Piece, pieces, pieces_are_unique};
 use std::alloc::Global;
 
 /// Returns the drawing with one piece sewn before another: its lines move to just before the first line of the

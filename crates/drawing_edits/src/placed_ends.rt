@@ -1,18 +1,17 @@
+ghost use Rattle.design_model.specs.OutOfMemory.{IsSpecified};
 ghost use Rattle.design_model.specs.Points.{is_same_point};
 ghost use Rattle.drawing_edits.specs.EditFaults.{edit_answer, edit_is_out_of_memory};
 ghost use Rattle.drawing_edits.specs.PlacedEnds.{block_if_all, end_placed, first_block, lines_listing, only_block, with_end_at, with_spot};
 ghost use Rattle.drawing_edits.specs.RedrawnDrawings.{redrawn};
-ghost use Rattle.drawing_model.specs.JoinedDrawings.{is_joined};
-ghost use Rattle.lists_and_numbers.specs.OutOfMemory.{IsSpecified};
+ghost use Rattle.line_graph.specs.JoinedDrawings.{is_joined};
 ghost use Rattle.std.specs.List.{list_any, position_or_len};
 ghost use Rattle.std.specs.Prelude.{◌≡◌, ◌≤◌, IfOk, Some, length, nat_lt, true};
 
 use crate::edit_fault::EditFault;
 use crate::line_cuts::cut_lines;
 use crate::redrawing::redraw;
-use design_model::Point;
-use drawing_model::{DrawKind, Drawing, Line, Spot};
-use lists_and_numbers::Memory;
+use design_model::{Memory, Point};
+use line_graph::{DrawKind, Drawing, Line, Spot};
 use std::alloc::Global;
 
 /// Returns the drawing with a start at a point, in tenths of a millimetre, where the flag is true, else with

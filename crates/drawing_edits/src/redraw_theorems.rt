@@ -1,6 +1,6 @@
 ghost use Rattle.drawing_edits.specs.ValidRedraws.{LinesInOrderAreDrawn, LinesWithinLimitsAreDrawn, ValidDrawingsAreRedrawn};
 
-use drawing_model::joined_drawings_stay;
+use line_graph::joined_drawings_stay;
 
 /// Theorem: lines in the order of their blocks that can be drawn are drawn as they are.
 pub fn lines_in_order_are_drawn()

@@ -1,17 +1,16 @@
+ghost use Rattle.design_model.specs.OutOfMemory.{IsSpecified};
 ghost use Rattle.drawing_edits.specs.EditFaults.{edit_answer, edit_is_out_of_memory};
 ghost use Rattle.drawing_edits.specs.RedrawnDrawings.{AddsAsSpecified, drawn_lines, line_added_if, redrawn, with_blocks, with_lines_of, with_starts_and_ends, with_walk_ends};
-ghost use Rattle.drawing_model.specs.GrowingDrawings.{ChangesAsSpecified, and_then, block_added, draw_is_out_of_memory};
-ghost use Rattle.drawing_model.specs.JoinedDrawings.{is_joined, joined_drawing};
-ghost use Rattle.drawing_model.specs.WalkEnds.{HasNoEnds, walk_end_added};
-ghost use Rattle.drawing_model.specs.declared.limits.TheConstants.{MAX_BLOCKS};
-ghost use Rattle.lists_and_numbers.specs.OutOfMemory.{IsSpecified};
+ghost use Rattle.line_graph.specs.GrowingDrawings.{ChangesAsSpecified, and_then, block_added, draw_is_out_of_memory};
+ghost use Rattle.line_graph.specs.JoinedDrawings.{is_joined, joined_drawing};
+ghost use Rattle.line_graph.specs.WalkEnds.{HasNoEnds, walk_end_added};
+ghost use Rattle.line_graph.specs.declared.limits.TheConstants.{MAX_BLOCKS};
 ghost use Rattle.std.specs.Prelude.{◌≡◌, ◌≤◌, ◌==◌, IfOk, Ok, length, true};
 ghost use Rattle.step_splitter.specs.declared.segment.TheConstants.{MAX_STEP};
 
 use crate::edit_fault::EditFault;
 use design_model::Points;
-use drawing_model::{DrawKind, Drawing, DrawingMaker, Line, Spot, join};
-use line_graph::EndsMaker;
+use line_graph::{DrawKind, Drawing, DrawingMaker, EndsMaker, Line, Spot, join};
 use std::alloc::Global;
 
 /// Returns the joined drawing that has the label and the threads of a drawing, and the given longest step, in

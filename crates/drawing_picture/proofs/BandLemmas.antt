@@ -3,7 +3,7 @@ use Rattle.std.proofs.Common.{◌≡◌, ◌≤◌, ℕ, ◌+◌, ◌*◌, Bool,
 use Rattle.drawing_picture.proofs.Names.{sum_by-cons, filter, flat_map, Point, band_length, Band, bands_from, half_steps_from, band_text, DrawingValue, Cut, nat_tests, append_assoc, length-drop, length-reverse, length-take-le, BandsShowLoads, band_along, half_steps_of_line, crosses, has_member, load_on}
 use Rattle.drawing_picture.specs.Bands.{half_steps}
 use Rattle.line_graph.specs.declared.edge.Edge.{Edge}
-use Rattle.drawing_model.specs.LineNeedles.{NeedlesLeadAlong, cost_of_line, needles_of_line}
+use Rattle.line_graph.specs.LineNeedles.{NeedlesLeadAlong, cost_of_line, needles_of_line}
 
 -- the load of one cut
 abbrev share : Edge → Cut → ℕ

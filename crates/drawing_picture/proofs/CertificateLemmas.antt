@@ -13,7 +13,7 @@ use Rattle.line_graph.specs.UniquePieces.{PiecesAreUnique}
 use Rattle.line_graph.specs.Walks.{needles_of_walk}
 use Rattle.route_verdict.specs.SewingSteps.{AllDrawn, AreDrawn}
 use Rattle.route_verdict.specs.VerdictTheorems.{CorrectRoutesAreAccepted, YesIsLeastRedwork}
-use Rattle.lists_and_numbers.proofs.CallerLemmas.{below_left, below_right}
+use Rattle.design_model.proofs.ListLemmas.{below_left, below_right}
 use Rattle.odd_cuts.proofs.CallerLemmas.{both_none}
 use Rattle.route_verdict.proofs.CallerLemmas.{count_none, piece_correct}
 

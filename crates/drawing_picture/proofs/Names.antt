@@ -9,7 +9,7 @@ pub use Rattle.std.specs.List.{AllZip, concat, filter, flat_map, range_with_len}
 pub use Rattle.std.specs.Slice.Iter.{iter_rest}
 pub use Rattle.design_model.specs.Designs.{DesignValue}
 pub use Rattle.design_model.specs.declared.point.Point.{Point}
-pub use Rattle.drawing_model.specs.Drawings.{DrawingValue, KeepsDrawingLimits}
+pub use Rattle.line_graph.specs.Drawings.{DrawingValue, KeepsDrawingLimits}
 pub use Rattle.drawing_picture.specs.BandLaws.{BandsShowLoads, band_length}
 pub use Rattle.drawing_picture.specs.BandTexts.{band_text, bands_of_lines, bands_of_pieces, colour_of_cut, way_points}
 pub use Rattle.drawing_picture.specs.Bands.{Band, band_along, bands_from, half_steps_from, half_steps_of_line}

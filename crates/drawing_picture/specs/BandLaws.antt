@@ -2,8 +2,8 @@
 use Rattle.std.specs.Prelude.{◌≡◌, ℕ, ◌*◌, ◌-◌, ◌<◌, ◌≤◌, List, filter, length, map, sum_by}
 use Rattle.drawing_picture.specs.Bands.{Band, bands_on}
 use Rattle.line_graph.specs.declared.edge.Edge.{Edge}
-use Rattle.drawing_model.specs.Drawings.{DrawingValue, KeepsDrawingLimits}
-use Rattle.drawing_model.specs.LineNeedles.{cost_of_line}
+use Rattle.line_graph.specs.Drawings.{DrawingValue, KeepsDrawingLimits}
+use Rattle.line_graph.specs.LineNeedles.{cost_of_line}
 use Rattle.odd_cuts.specs.declared.cut.Cut.{Cut}
 use Rattle.odd_cuts.specs.Cuts.{crosses, load_on}
 

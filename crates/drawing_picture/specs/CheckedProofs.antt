@@ -5,7 +5,7 @@ use Rattle.design_model.specs.declared.design.TheConstants.{MAX_COMMANDS}
 use Rattle.drawing_picture.specs.declared.certificate_check.ProofFault.{ProofFault}
 use Rattle.drawing_picture.specs.declared.certificate_check.ProofFault.TheVariants as fault
 use Rattle.drawing_picture.specs.ProofPictures.{proof_of}
-use Rattle.drawing_model.specs.Drawings.{DrawingValue, KeepsDrawingLimits}
+use Rattle.line_graph.specs.Drawings.{DrawingValue, KeepsDrawingLimits}
 use Rattle.line_graph.specs.PieceGraphs.{PieceValue, piece_graph}
 use Rattle.line_graph.specs.Pieces.{ArePieces}
 use Rattle.line_graph.specs.Runs.{commands_after, runs_of, sewn_design}

@@ -15,7 +15,7 @@ use Rattle.drawing_picture.specs.DrawingCaptions.{counts_text, drawing_words, ju
 use Rattle.drawing_picture.specs.JunctionMarks.{loose_points, marks_of_pieces, odd_marks}
 use Rattle.drawing_picture.specs.LinePaths.{line_paths}
 use Rattle.drawing_review.specs.Places.{places_of_lines}
-use Rattle.drawing_model.specs.Drawings.{DrawingValue}
+use Rattle.line_graph.specs.Drawings.{DrawingValue}
 use Rattle.line_graph.specs.PieceGraphs.{PieceValue, piece_graph}
 use Rattle.line_graph.specs.Pieces.{ArePieces}
 use Rattle.line_sections.specs.Lines.{LineValue, points_of_lines}

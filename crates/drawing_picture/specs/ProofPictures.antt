@@ -16,7 +16,7 @@ use Rattle.design_picture.specs.Pictures.{below_text, design_top, over_text, thr
 use Rattle.design_picture.specs.Strokes.{pen_of, strokes_of}
 use Rattle.drawing_picture.specs.declared.proof_captions.TheConstants.{REASON_LINES}
 use Rattle.drawing_picture.specs.BandTexts.{band_group, bands_of_pieces}
-use Rattle.drawing_model.specs.Drawings.{DrawingValue}
+use Rattle.line_graph.specs.Drawings.{DrawingValue}
 use Rattle.line_graph.specs.PieceGraphs.{PieceValue}
 use Rattle.line_graph.specs.Runs.{sewn_design}
 use Rattle.odd_cuts.specs.declared.certificate.PieceCert.{PieceCert}

@@ -2,8 +2,7 @@ ghost use Rattle.drawing_picture.specs.BandTexts.{band_start, colour_of_cut, way
 ghost use Rattle.picture_parts.specs.Paths.{path_end};
 ghost use Rattle.std.specs.Prelude.{◌≡◌, ◌+◌, ◌++◌, OnOk, take};
 
-use design_model::Point;
-use lists_and_numbers::{Bytes, Memory};
+use design_model::{Bytes, Memory, Point};
 use picture_parts::{Part, put, put_around, put_path_end};
 
 /// Appends the band of a cut, which begins with the first of the given half steps.

@@ -6,9 +6,8 @@ ghost use Rattle.std.specs.List.{flat_map};
 ghost use Rattle.std.specs.Prelude.{◌≡◌, ◌+◌, ◌++◌, ◌∷◌, ◌<◌, ◌^◌, List, IfOk, OnOk, drop};
 
 use crate::band_texts::put_band;
-use design_model::Point;
+use design_model::{Bytes, Memory, Point};
 use line_graph::Edge;
-use lists_and_numbers::{Bytes, Memory};
 use odd_cuts::Cut;
 
 /// The half steps of an edge that have no band yet: ahead from its first junction, back from its last one.

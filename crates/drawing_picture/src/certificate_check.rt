@@ -4,10 +4,8 @@ ghost use Rattle.std.specs.Prelude.{◌≡◌, ◌-◌, ◌<◌, ◌^◌, All, I
 
 use crate::proof_picture::proof_picture;
 use crate::theorems::right_certificates_are_sewn;
-use design_model::Design;
-use drawing_model::Drawing;
-use line_graph::{pieces, pieces_are_unique};
-use lists_and_numbers::{Bytes, Memory};
+use design_model::{Bytes, Design, Memory};
+use line_graph::{Drawing, pieces, pieces_are_unique};
 use odd_cuts::Cert;
 use route_verdict::{Reason, Verdict, judge, sew};
 use std::alloc::Global;

@@ -5,9 +5,8 @@ ghost use Rattle.std.specs.List.{flat_map};
 ghost use Rattle.std.specs.Prelude.{◌≡◌, ◌++◌, OnOk};
 
 use crate::junction_marks::JunctionMark;
-use design_model::Point;
-use drawing_model::Spot;
-use lists_and_numbers::{Bytes, Memory};
+use design_model::{Bytes, Memory, Point};
+use line_graph::Spot;
 use picture_parts::{Mark, put_mark};
 
 /// Appends the dots of junctions.

@@ -1,10 +1,9 @@
-ghost use Rattle.drawing_model.specs.declared.limits.TheConstants.{MAX_BLOCKS};
 ghost use Rattle.drawing_picture.specs.DrawingCaptions.{counts_text, mark_keys, thread_end, thread_line, thread_lines};
+ghost use Rattle.line_graph.specs.declared.limits.TheConstants.{MAX_BLOCKS};
 ghost use Rattle.std.specs.Prelude.{◌≡◌, ◌++◌, ◌≤◌, OnOk, length};
 
-use design_model::Point;
+use design_model::{Bytes, Memory, Point};
 use design_picture::put_block_start;
-use lists_and_numbers::{Bytes, Memory};
 use picture_parts::{Mark, Part, put, put_mark, thread_colour};
 
 /// What the picture of a drawing shows.

@@ -6,12 +6,10 @@ use crate::drawing_captions::{WORDS, put_counts, put_mark_keys, put_thread_lines
 use crate::junction_marks::{JunctionMark, junction_marks, odd_count};
 use crate::line_paths::put_line_paths;
 use crate::loose_ends::loose_ends;
-use design_model::Point;
+use design_model::{Bytes, Memory, Point};
 use design_picture::{Area, Hoop, area_of, put_below_start, put_group_end, put_top};
-use drawing_model::Drawing;
-use line_graph::pieces;
+use line_graph::{Drawing, pieces};
 use line_sections::{Line, lines_extent};
-use lists_and_numbers::{Bytes, Memory};
 use picture_parts::{Mark, put_foot};
 use std::alloc::Global;
 

@@ -2,9 +2,8 @@ ghost use Rattle.drawing_picture.specs.Bands.{half_steps as half_steps_along, ha
 ghost use Rattle.std.specs.Prelude.{◌≡◌, ◌<◌, All, IfOk, length, reverse};
 ghost use Rattle.step_splitter.specs.Chains.{IsNeedlePoint};
 
-use design_model::{Point, Points};
-use drawing_model::{Drawing, needles};
-use lists_and_numbers::Memory;
+use design_model::{Memory, Point, Points};
+use line_graph::{Drawing, needles};
 use std::alloc::Global;
 
 /// Returns the half steps of a line from its first point, in half tenths of a millimetre.

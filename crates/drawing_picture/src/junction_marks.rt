@@ -1,12 +1,11 @@
-ghost use Rattle.drawing_model.specs.declared.limits.TheConstants.{MAX_LINES};
 ghost use Rattle.drawing_picture.specs.JunctionMarks.{marks_of_piece, marks_of_pieces, odd_marks};
 ghost use Rattle.drawing_picture.specs.TestedMarks.{tested_marks};
 ghost use Rattle.line_graph.specs.PiecesOfDrawings.{graph_of};
+ghost use Rattle.line_graph.specs.declared.limits.TheConstants.{MAX_LINES};
 ghost use Rattle.std.specs.Prelude.{◌≡◌, ◌+◌, ◌++◌, ◌≤◌, IfOk, OnOk, length, map};
 
-use design_model::Point;
+use design_model::{Items, Memory, Point};
 use line_graph::{Piece, is_odd_at};
-use lists_and_numbers::{Items, Memory};
 use std::alloc::Global;
 
 /// The mark of a junction: where it is, and whether it is odd.

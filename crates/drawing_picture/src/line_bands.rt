@@ -6,10 +6,8 @@ ghost use Rattle.std.specs.Prelude.{◌≡◌, ◌++◌, ◌<◌, All, OnOk, len
 
 use crate::bands::{FreeWays, put_bands};
 use crate::half_steps::{half_steps_of, reversed};
-use design_model::Point;
-use drawing_model::Drawing;
-use line_graph::{Edge, Piece};
-use lists_and_numbers::{Bytes, Memory};
+use design_model::{Bytes, Memory, Point};
+use line_graph::{Drawing, Edge, Piece};
 use odd_cuts::{Cut, PieceCert};
 use std::alloc::Global;
 

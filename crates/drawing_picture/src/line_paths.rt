@@ -3,9 +3,8 @@ ghost use Rattle.picture_parts.specs.Paths.{straight_text};
 ghost use Rattle.std.specs.List.{flat_map};
 ghost use Rattle.std.specs.Prelude.{◌≡◌, ◌++◌, OnOk};
 
-use design_model::Point;
+use design_model::{Bytes, Memory, Point};
 use line_sections::Line;
-use lists_and_numbers::{Bytes, Memory};
 use picture_parts::{put_coloured_path, put_move, put_path_end, put_straight, thread_colour};
 
 /// Appends the paths of lines, where the blocks have the given threads.

@@ -2,10 +2,9 @@ ghost use Rattle.drawing_picture.specs.JunctionMarks.{is_loose as is_loose_kind,
 ghost use Rattle.drawing_review.specs.Places.{places_of_lines};
 ghost use Rattle.std.specs.Prelude.{◌≡◌, ◌++◌, IfOk, OnOk};
 
-use design_model::Points;
+use design_model::{Memory, Points};
 use drawing_review::{Place, PlaceKind, review};
 use line_sections::Line;
-use lists_and_numbers::Memory;
 use std::alloc::Global;
 
 /// The distance at which an end of a line is loose, in tenths of a millimetre.

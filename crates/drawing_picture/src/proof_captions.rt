@@ -2,8 +2,8 @@ ghost use Rattle.drawing_picture.specs.BandTexts.{band_group};
 ghost use Rattle.drawing_picture.specs.ProofPictures.{reason_lines, retraced_steps};
 ghost use Rattle.std.specs.Prelude.{◌≡◌, ◌+◌, ◌++◌, ◌<◌, ◌-◌, ◌^◌, OnOk, length};
 
+use design_model::{Bytes, Memory};
 use design_picture::LINE_HEIGHT;
-use lists_and_numbers::{Bytes, Memory};
 use odd_cuts::PieceCert;
 use picture_parts::{Part, put};
 

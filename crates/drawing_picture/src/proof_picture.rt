@@ -7,14 +7,12 @@ ghost use Rattle.std.specs.Prelude.{◌≡◌, ◌<◌, ◌-◌, ◌^◌, All, I
 
 use crate::line_bands::put_pieces;
 use crate::proof_captions::{REASON_LINES, put_band_group, put_reason, steps_again};
-use design_model::{Design, extent};
+use design_model::{Bytes, Design, Memory, extent};
 use design_picture::{
     Area, Hoop, Layer, Pen, Stroke, Strokes, area_of, put_below, put_design_top, put_over,
     put_path_layer, put_strokes, put_threads,
 };
-use drawing_model::Drawing;
-use line_graph::Piece;
-use lists_and_numbers::{Bytes, Memory};
+use line_graph::{Drawing, Piece};
 use odd_cuts::PieceCert;
 use picture_parts::put_foot;
 use std::alloc::Global;

@@ -2,8 +2,10 @@ ghost use Rattle.drawing_picture.specs.BandLaws.{BandsShowLoads};
 ghost use Rattle.drawing_picture.specs.CheckedProofs.{RightCertificatesAreSewn};
 ghost use Rattle.drawing_picture.specs.DrawnLaws.{MarksShowJunctions, PathsShowSegments};
 
-use drawing_model::needles_lead_along;
-use line_graph::{fitting_walks_are_sewable, pieces_are_valid, pieces_keep_limits, runs_are_sewn};
+use line_graph::{
+    fitting_walks_are_sewable, needles_lead_along, pieces_are_valid, pieces_keep_limits,
+    runs_are_sewn,
+};
 use odd_cuts::{
     cut_faults_are_exact, packings_bound_walks, packings_keep_their_total, walk_faults_are_exact,
 };

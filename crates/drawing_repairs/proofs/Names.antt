@@ -10,8 +10,8 @@ pub use Rattle.std.specs.List.{AllPairs, flat_map, list_all, list_any}
 pub use Rattle.design_model.proofs.CallerLemmas.{point_itself, same_back, same_is}
 pub use Rattle.design_model.specs.Points.{is_same_point}
 pub use Rattle.design_model.specs.declared.point.Point.{Point}
-pub use Rattle.drawing_model.specs.Drawings.{DrawingValue, HasNoRepeat, KeepsDrawingLimits, endpoints}
-pub use Rattle.drawing_model.specs.GrowingDrawings.{and_then, has_repeated_point, repeats_after}
+pub use Rattle.line_graph.specs.Drawings.{DrawingValue, HasNoRepeat, KeepsDrawingLimits, endpoints}
+pub use Rattle.line_graph.specs.GrowingDrawings.{and_then, has_repeated_point, repeats_after}
 pub use Rattle.drawing_repairs.specs.AnchoredSpots.{anchored_spots}
 pub use Rattle.drawing_repairs.specs.Anchors.{anchored, anchors_after, anchors_of, distance_between, is_within_gap, nearer_anchor}
 pub use Rattle.drawing_repairs.specs.Anchors.{nearest_after, nearest_anchor, point_or, with_anchor}
@@ -39,5 +39,5 @@ pub use Rattle.line_sections.specs.Lines.{LineValue}
 pub use Rattle.line_sections.specs.Sections.{all_sections, has_points, is_shared_point, line_sections, lines_through, listed_in}
 pub use Rattle.line_sections.specs.Sections.{sections_from, sections_of, sections_with_first}
 pub use Rattle.line_sections.specs.declared.spot.Spot.{Spot}
-pub use Rattle.lists_and_numbers.proofs.CallerLemmas.{all_left, all_right, either_way, first_true, second_true}
+pub use Rattle.design_model.proofs.ListLemmas.{all_left, all_right, either_way, first_true, second_true}
 pub use Rattle.step_splitter.specs.Chains.{last_point_or}

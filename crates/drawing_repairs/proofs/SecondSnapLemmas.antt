@@ -5,9 +5,9 @@ use Rattle.std.proofs.lemmas.List.Concat.{flat_map-cons}
 use Rattle.std.specs.List.Sorted.{IsNonDecreasing}
 use Rattle.drawing_repairs.proofs.Names.{nat_tests, flat_map, list_any, Point, is_same_point, DrawingValue, endpoints, and_then, Spot, LineValue, listed_in, last_point_or, SnapFault, SnappedDrawing, VanishedLine, anchored_spots, anchored, listed_line, listed_lines, block_anchors, changed_in, moved_line, moved_lines, vanished_from, snap_of, snapped_lines, unless_vanished, same_is, and_parts, All-append, All-cons, All-head, All-map, All-nil, All-tail, All-weaker, Any-from_list_any, KeepsDrawingLimits, all_sections, has_points, is_shared_point, line_sections, sections_from, sections_of, sections_with_first, SnappedDrawingsStay, joined_snap, kept_lines, snap_value, within_limits, all_left, all_right}
 use Rattle.drawing_edits.specs.RedrawnDrawings.{drawn_lines, with_starts_and_ends}
-use Rattle.drawing_model.specs.declared.draw_kind.DrawKind.{DrawKind}
-use Rattle.drawing_model.specs.JoinedDrawings.{joined_drawing}
-use Rattle.drawing_model.specs.WalkEnds.{HasNoEnds, has_end_at_spot, is_junction}
+use Rattle.line_graph.specs.declared.draw_kind.DrawKind.{DrawKind}
+use Rattle.line_graph.specs.JoinedDrawings.{joined_drawing}
+use Rattle.line_graph.specs.WalkEnds.{HasNoEnds, has_end_at_spot, is_junction}
 use Rattle.drawing_edits.specs.ValidRedraws.{LinesInOrderAreDrawn}
 use Rattle.drawing_edits.proofs.CallerLemmas.{joined_with}
 use Rattle.drawing_repairs.proofs.SnappedLinesLemmas.{none_moves, nothing_changes, snapped_points_stay, twice_is_once}

@@ -1,7 +1,7 @@
 -- Worked values of snapped lines: small drawings, in tenths of a millimetre.
 use Rattle.std.proofs.Common.{◌≡◌, ℕ, pos, negsuc, List, [], ◌∷◌, ◌++◌, Result, Ok, Err, refl}
 use Rattle.drawing_repairs.proofs.Names.{Point, Spot, LineValue, lines_through, DrawingValue, SnapFault, SnappedDrawing, anchored_spots, anchored, anchors_of, distance_between, with_due_ends, unrepeated, snap_of, snapped_lines, StaysSnapped}
-use Rattle.drawing_model.specs.declared.draw_kind.DrawKind.TheVariants as kind
+use Rattle.line_graph.specs.declared.draw_kind.DrawKind.TheVariants as kind
 use Rattle.drawing_repairs.specs.declared.snap_fault.SnapFault.TheVariants as fault
 use Rattle.drawing_repairs.specs.MovedLines.{moved_points}
 

@@ -10,7 +10,7 @@ use Rattle.drawing_repairs.proofs.MovedApartLemmas.{IsOnlyNear, all_moved, all_o
 use Rattle.drawing_repairs.proofs.MoveLemmas.{stays}
 use Rattle.drawing_repairs.proofs.RepeatLemmas.{none_listed, none_moved, unmoved_points}
 use Rattle.drawing_repairs.proofs.SpreadLemmas.{only_stays}
-use Rattle.drawing_model.proofs.CallerLemmas.{none_repeats}
+use Rattle.line_graph.proofs.DrawingLemmas.{none_repeats}
 use Rattle.drawing_repairs.proofs.FollowLemmas.{after_steps}
 
 -- the test whether a point is one of some

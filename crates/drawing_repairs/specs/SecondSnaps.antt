@@ -1,6 +1,6 @@
 -- A second snap: a drawing that was snapped stays as it is.
 use Rattle.std.specs.Prelude.{◌≡◌, ℕ, List, [], Ok}
-use Rattle.drawing_model.specs.Drawings.{DrawingValue, KeepsDrawingLimits}
+use Rattle.line_graph.specs.Drawings.{DrawingValue, KeepsDrawingLimits}
 use Rattle.line_sections.specs.declared.spot.Spot.{Spot}
 use Rattle.drawing_repairs.specs.declared.snapping.SnappedDrawing.{SnappedDrawing}
 use Rattle.drawing_repairs.specs.Snaps.{snap_of}

@@ -7,7 +7,7 @@ use Rattle.design_model.specs.Points.{is_same_point}
 use Rattle.line_sections.specs.declared.spot.Spot.{Spot}
 use Rattle.line_sections.specs.Lines.{LineValue}
 use Rattle.line_sections.specs.Sections.{listed_in}
-use Rattle.drawing_model.specs.Drawings.{HasNoRepeat}
+use Rattle.line_graph.specs.Drawings.{HasNoRepeat}
 use Rattle.drawing_review.specs.declared.segment.LineSegment.{LineSegment}
 use Rattle.drawing_review.specs.Frames.{grid_point}
 use Rattle.drawing_review.specs.Meetings.{is_near}

@@ -4,10 +4,10 @@
 use Rattle.std.specs.Prelude.{ℕ, Bool, false, List, Option, Some, None, Result, Ok, Err}
 use Rattle.drawing_edits.specs.RedrawnDrawings.{drawn_lines, with_starts_and_ends}
 use Rattle.line_sections.specs.Lines.{LineValue}
-use Rattle.drawing_model.specs.declared.draw_kind.DrawKind.{DrawKind}
-use Rattle.drawing_model.specs.Drawings.{DrawingValue}
-use Rattle.drawing_model.specs.GrowingDrawings.{and_then, draw_is_out_of_memory}
-use Rattle.drawing_model.specs.JoinedDrawings.{joined_drawing}
+use Rattle.line_graph.specs.declared.draw_kind.DrawKind.{DrawKind}
+use Rattle.line_graph.specs.Drawings.{DrawingValue}
+use Rattle.line_graph.specs.GrowingDrawings.{and_then, draw_is_out_of_memory}
+use Rattle.line_graph.specs.JoinedDrawings.{joined_drawing}
 use Rattle.line_sections.specs.declared.spot.Spot.{Spot}
 use Rattle.drawing_repairs.specs.declared.snap_fault.SnapFault.{SnapFault}
 use Rattle.drawing_repairs.specs.declared.snap_fault.SnapFault.TheVariants as fault

@@ -4,8 +4,8 @@ ghost use Rattle.std.specs.Prelude.{◌≡◌, ◌++◌, ◌∷◌, [], IfOk, On
 
 use crate::anchors::Anchors;
 use crate::moving::{anchors_for, anchors_in};
-use drawing_model::{Line, Spot};
-use lists_and_numbers::Memory;
+use design_model::Memory;
+use line_graph::{Line, Spot};
 use std::alloc::Global;
 
 /// Returns starts or ends after their points moved to the anchors of their blocks. `gap` is in tenths of a

@@ -1,12 +1,11 @@
-ghost use Rattle.drawing_repairs.specs.Anchors.{anchored, anchors_of, distance_between, is_within_gap, nearer_anchor, nearer_point, nearest_after, nearest_anchor, with_anchor};
+ghost use Rattle.drawing_repairs.specs.Anchors.{anchored, anchors_of, distance_between, is_within_gap, nearer_anchor, nearer_point, nearest_anchor, with_anchor};
 ghost use Rattle.drawing_repairs.specs.Cells.{AreInCells, cell_of, is_same_cell, points_in_cell};
 ghost use Rattle.std.specs.HashMap.{get};
 ghost use Rattle.std.specs.List.{list_any};
 ghost use Rattle.std.specs.Prelude.{◌≡◌, IfOk, OnOk, None};
 
 use crate::cells::{Cell, cell_at, points_at, put_in_cells};
-use design_model::{Point, Points};
-use lists_and_numbers::Memory;
+use design_model::{Memory, Point, Points};
 use std::alloc::Global;
 use std::collections::HashMap;
 use std::marker::Model;
@@ -57,7 +56,7 @@ impl Anchors {
     fn nearest(&self, p: Point) -> Option<Point>
         ensures { result ≡ nearest_anchor self.now.gap self.now.points p }
     {
-        nearest_of(self.gap, points_at(&self.cells, cell_at(self.gap, p)), p)
+        anchor_nearest_to(self.gap, points_at(&self.cells, cell_at(self.gap, p)), p)
     }
 }
 
@@ -113,26 +112,26 @@ fn has_anchor(gap: u16, anchors: &[Point], p: Point) -> bool
     false
 }
 
-fn nearest_of(gap: u16, anchors: &[Point], p: Point) -> Option<Point>
+fn anchor_nearest_to(gap: u16, anchors: &[Point], p: Point) -> Option<Point>
     ensures { result ≡ nearest_anchor gap anchors.now p }
 {
     let mut best = None;
     for anchor in anchors {
-        best = nearer(gap, p, best, *anchor);
+        best = anchor_nearer_to(gap, p, best, *anchor);
     }
     best
 }
 
-fn nearer(gap: u16, p: Point, best: Option<Point>, anchor: Point) -> Option<Point>
+fn anchor_nearer_to(gap: u16, p: Point, best: Option<Point>, anchor: Point) -> Option<Point>
     ensures { result ≡ nearer_anchor gap p best anchor }
 {
     match best {
-        None => within(gap, p, anchor),
+        None => anchor_if_near(gap, p, anchor),
         Some(best) => Some(nearer_of(p, best, anchor)),
     }
 }
 
-fn within(gap: u16, p: Point, anchor: Point) -> Option<Point>
+fn anchor_if_near(gap: u16, p: Point, anchor: Point) -> Option<Point>
     ensures { result ≡ nearer_anchor gap p None anchor }
 {
     if is_within(gap, p, anchor) {

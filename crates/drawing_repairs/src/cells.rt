@@ -2,9 +2,8 @@ ghost use Rattle.drawing_repairs.specs.Cells.{AddsWhere, cell_of, cell_side, fir
 ghost use Rattle.std.specs.HashMap.{get};
 ghost use Rattle.std.specs.Prelude.{◌≡◌, OnOk, false};
 
-use design_model::{Point, Points};
+use design_model::{Memory, Point, Points};
 use drawing_review::counted_from_least;
-use lists_and_numbers::Memory;
 use std::alloc::Global;
 use std::collections::HashMap;
 

@@ -1,12 +1,10 @@
-ghost use Rattle.design_model.specs.Points.{is_same_point};
 ghost use Rattle.drawing_repairs.specs.EndGroups.{AreBetween, is_beyond_gap, widened_bounds};
 ghost use Rattle.drawing_repairs.specs.Listings.{due_end, is_due};
-ghost use Rattle.std.specs.List.{flat_map, list_any};
+ghost use Rattle.std.specs.List.{flat_map};
 ghost use Rattle.std.specs.Prelude.{◌≡◌, IfOk};
 
-use design_model::{Point, Points};
+use design_model::{Memory, Point, Points};
 use drawing_review::{GridPoint, LineSegment, comes_near, counted_from_least};
-use lists_and_numbers::Memory;
 use std::alloc::Global;
 use std::marker::Model;
 
@@ -177,16 +175,5 @@ fn first_due(gap: u16, listed: &[Point], s: &LineSegment, ends: &[Point]) -> Opt
 fn is_due_in(gap: u16, listed: &[Point], s: &LineSegment, end: Point) -> bool
     ensures { result ≡ is_due gap listed.now s.now end }
 {
-    comes_near(gap, counted_from_least(end), s) && !is_listed(listed, end)
-}
-
-fn is_listed(points: &[Point], end: Point) -> bool
-    ensures { result ≡ list_any (is_same_point end) points.now }
-{
-    for p in points {
-        if end == *p {
-            return true;
-        }
-    }
-    false
+    comes_near(gap, counted_from_least(end), s) && !listed.contains(&end)
 }

@@ -1,13 +1,12 @@
-ghost use Rattle.drawing_model.specs.Drawings.{endpoints};
 ghost use Rattle.drawing_repairs.specs.Listings.{added_ends, block_ends, due_ends, followed_by, followed_line, followed_on, followed_points, listed_line, listed_lines, segment_between, unfollowed_line, with_due_ends};
+ghost use Rattle.line_graph.specs.Drawings.{endpoints};
 ghost use Rattle.std.specs.Prelude.{◌≡◌, ◌++◌, ◌∷◌, [], IfOk, OnOk, Some, None, true};
 ghost use Rattle.step_splitter.specs.Chains.{last_point_or};
 
 use crate::end_groups::BlockEnds;
-use design_model::{Point, Points};
+use design_model::{Memory, Point, Points};
 use drawing_review::{LineSegment, Position, segment_at};
 use line_sections::Line;
-use lists_and_numbers::Memory;
 use std::alloc::Global;
 use std::collections::VecDeque;
 use std::marker::Model;

@@ -6,9 +6,8 @@ ghost use Rattle.std.specs.Prelude.{◌≡◌, ◌++◌, ◌∷◌, [], IfOk, On
 
 use crate::anchors::Anchors;
 use crate::snap_fault::VanishedLine;
-use design_model::{Point, Points};
+use design_model::{Memory, Point, Points};
 use line_sections::Line;
-use lists_and_numbers::Memory;
 use std::alloc::Global;
 
 /// Returns the lines of a drawing after their points moved to the anchors of their blocks. Those that moved to

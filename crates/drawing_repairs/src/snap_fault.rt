@@ -1,9 +1,9 @@
-ghost use Rattle.drawing_model.specs.declared.draw_kind.DrawKind.TheVariants as kind;
 ghost use Rattle.drawing_repairs.specs.declared.snap_fault.SnapFault.TheVariants as fault;
+ghost use Rattle.line_graph.specs.declared.draw_kind.DrawKind.TheVariants as kind;
 ghost use Rattle.std.specs.Prelude.{◌≡◌};
 
-use drawing_model::DrawKind;
-use lists_and_numbers::Memory;
+use design_model::Memory;
+use line_graph::DrawKind;
 
 /// A line that would vanish: the indexes of its block and of the line among all lines.
 #[derive(Clone, Copy, Debug, PartialEq)]

@@ -1,10 +1,10 @@
-ghost use Rattle.drawing_model.specs.JoinedDrawings.{joined_drawing};
-ghost use Rattle.drawing_model.specs.WalkEnds.{HasNoEnds};
+ghost use Rattle.design_model.specs.OutOfMemory.{IsSpecified};
 ghost use Rattle.drawing_repairs.specs.AnchoredSpots.{anchored_spots};
 ghost use Rattle.drawing_repairs.specs.MovedLines.{changed_in};
 ghost use Rattle.drawing_repairs.specs.SecondSnaps.{StaysSnapped};
 ghost use Rattle.drawing_repairs.specs.Snaps.{kept_lines, snap_is_out_of_memory, snap_of};
-ghost use Rattle.lists_and_numbers.specs.OutOfMemory.{IsSpecified};
+ghost use Rattle.line_graph.specs.JoinedDrawings.{joined_drawing};
+ghost use Rattle.line_graph.specs.WalkEnds.{HasNoEnds};
 ghost use Rattle.std.specs.Prelude.{◌≡◌, ◌++◌, IfOk, OnOk, Ok};
 
 use crate::anchored_spots::anchor_spots;
@@ -12,10 +12,9 @@ use crate::listing::listed as with_listings;
 use crate::moving::{first_vanished, moved};
 use crate::second_snaps::snapped_drawings_stay;
 use crate::snap_fault::SnapFault;
-use design_model::Points;
+use design_model::{Items, Points};
 use drawing_edits::{draw_lines, joined_with_ends};
-use drawing_model::{Drawing, Line, Spot};
-use lists_and_numbers::Items;
+use line_graph::{Drawing, Line, Spot};
 use std::alloc::Global;
 
 /// A snapped drawing: its lines as they are drawn, the same lines joined with the starts and ends, and the

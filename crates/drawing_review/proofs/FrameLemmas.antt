@@ -1,7 +1,7 @@
 -- Frames that lie inside others.
 use Rattle.std.proofs.Common.{◌≡◌, true, nat_lt, arith}
 use Rattle.drawing_review.proofs.Names.{lt-ltb, ltb-true, Frame, IsInside, are_apart, united_frame}
-use Rattle.lists_and_numbers.proofs.CallerLemmas.{either_way}
+use Rattle.design_model.proofs.ListLemmas.{either_way}
 
 -- A frame that is apart from another is apart from what lies inside that.
 pub apart_inside : (q g f : Frame) → IsInside g f → are_apart q g ≡ true → are_apart q f ≡ true

@@ -6,7 +6,7 @@ ghost use Rattle.std.specs.Prelude.{◌≡◌, IfOk};
 use crate::frame::Frame;
 use crate::query::Query;
 use crate::segment::LineSegment;
-use lists_and_numbers::Memory;
+use design_model::Memory;
 use std::alloc::Global;
 use std::marker::Model;
 

@@ -3,9 +3,8 @@ ghost use Rattle.line_sections.specs.Sections.{has_points};
 ghost use Rattle.std.specs.Prelude.{◌≡◌, ◌++◌, IfOk, OnOk, true, length};
 
 use crate::segment::{LineSegment, Position, segment_at};
-use design_model::Point;
+use design_model::{Memory, Point};
 use line_sections::Line;
-use lists_and_numbers::Memory;
 use std::alloc::Global;
 
 /// Returns the segments of all lines, in the order of the lines and along each.

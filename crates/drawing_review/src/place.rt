@@ -26,4 +26,4 @@ pub struct Place {
 }
 
 /// Places of a drawing, in order.
-pub type Places = lists_and_numbers::Items<Place>;
+pub type Places = design_model::Items<Place>;

@@ -9,9 +9,8 @@ use crate::place::{Place, PlaceKind, Places};
 use crate::query::Query;
 use crate::region::{Region, is_any, regions};
 use crate::segment::LineSegment;
-use design_model::Point;
+use design_model::{Memory, Point};
 use line_sections::Line;
-use lists_and_numbers::Memory;
 use std::alloc::Global;
 
 /// Returns the places of lines that were probably not meant, in the order of the lines and along each. `step`

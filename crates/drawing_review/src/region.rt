@@ -7,7 +7,7 @@ use crate::frame::Frame;
 use crate::group::{Group, frame_of};
 use crate::query::Query;
 use crate::segment::LineSegment;
-use lists_and_numbers::Memory;
+use design_model::Memory;
 use std::alloc::Global;
 use std::marker::Model;
 

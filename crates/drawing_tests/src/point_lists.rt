@@ -1,8 +1,7 @@
 ghost use Rattle.drawing_tests.specs.Places.{point_at};
 ghost use Rattle.std.specs.Prelude.{◌≡◌, IfOk, map};
 
-use design_model::{Point, Points};
-use lists_and_numbers::Memory;
+use design_model::{Memory, Point, Points};
 use std::alloc::Global;
 
 /// Returns the points at the given places, each an x and a y. The only error is `Memory`.

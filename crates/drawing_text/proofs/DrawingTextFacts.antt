@@ -1,7 +1,7 @@
 -- Worked values of drawing texts: drawings, and the first faults of texts.
 use Rattle.std.proofs.Common.{◌≡◌, ℕ, pos, negsuc, List, [], ◌∷◌, ◌++◌, Ok, Err, codes, refl}
 use Rattle.drawing_text.proofs.Names.{flat_map, LineValue, lines_through, DrawKind, DrawingValue, drawing_as2, drawing_of, text_lines, line_without_return, words_of_line, located_fault}
-use Rattle.drawing_model.specs.declared.draw_kind.DrawKind.TheVariants as kind
+use Rattle.line_graph.specs.declared.draw_kind.DrawKind.TheVariants as kind
 use Rattle.drawing_text.proofs.CanonicalTextFacts.{place}
 
 -- lines with their ends

@@ -2,7 +2,7 @@
 use Rattle.std.proofs.Common.{◌≡◌, ℕ, zero, suc, pos, List, [], ◌∷◌, ◌++◌, Result, Ok, Err, ap, codes, length, refl, arith}
 use Rattle.std.specs.Fmt.{digits}
 use Rattle.drawing_text.proofs.Names.{flat_map, Spot, lines_through, DrawKind, DrawingValue, drawing_as2, drawing_of, canonical_text2, drawing_as_drawn, canonical_text3, end_lines_text, with_ends_of, AreInBlockOrder, IsJoinedFrom, drawn_text}
-use Rattle.drawing_model.specs.declared.draw_kind.DrawKind.TheVariants as kind
+use Rattle.line_graph.specs.declared.draw_kind.DrawKind.TheVariants as kind
 use Rattle.drawing_text.proofs.CanonicalTextFacts.{place}
 
 -- a text of that version: lines of a block with a cross at 10 0, and further lines

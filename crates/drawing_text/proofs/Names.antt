@@ -19,17 +19,17 @@ pub use Rattle.design_model.specs.Labels.{IsLabel, IsPrintable}
 pub use Rattle.design_model.specs.Points.{is_point_within, is_same_point}
 pub use Rattle.design_model.specs.declared.point.Point.{Point}
 pub use Rattle.design_model.specs.declared.point.TheConstants.{NEEDLE_LIMIT}
-pub use Rattle.drawing_model.proofs.CallerLemmas.{after_both, finished_none, joined_none, last_by, none_repeats, spot_comes, unless}
-pub use Rattle.drawing_model.specs.Drawings.{DrawingValue, IsLine, KeepsDrawingLimits, endpoints}
-pub use Rattle.drawing_model.specs.EndOrders.{AreInBlockOrder, HasOrderedEnds}
-pub use Rattle.drawing_model.specs.GrowingDrawings.{all_in_needle_range, and_then, block_added, finished_drawing, is_drawing_label}
-pub use Rattle.drawing_model.specs.GrowingDrawings.{is_last_empty, line_added, point_count, step_count, steps_with_line, with_new_block}
-pub use Rattle.drawing_model.specs.GrowingDrawings.{with_new_line}
-pub use Rattle.drawing_model.specs.JoinedDrawings.{is_joined, joined_drawing}
-pub use Rattle.drawing_model.specs.Needles.{steps_of_line}
-pub use Rattle.drawing_model.specs.WalkEnds.{AreInDifferentPieces, HasNoEnds, IsValidDrawing, are_connected_spots, has_end_at_spot}
-pub use Rattle.drawing_model.specs.WalkEnds.{is_junction, spot_added, walk_end_added}
-pub use Rattle.drawing_model.specs.declared.draw_kind.DrawKind.{DrawKind}
+pub use Rattle.line_graph.proofs.DrawingLemmas.{after_both, finished_none, joined_none, last_by, none_repeats, spot_comes, unless}
+pub use Rattle.line_graph.specs.Drawings.{DrawingValue, IsLine, KeepsDrawingLimits, endpoints}
+pub use Rattle.line_graph.specs.EndOrders.{AreInBlockOrder, HasOrderedEnds}
+pub use Rattle.line_graph.specs.GrowingDrawings.{all_in_needle_range, and_then, block_added, finished_drawing, is_drawing_label}
+pub use Rattle.line_graph.specs.GrowingDrawings.{is_last_empty, line_added, point_count, step_count, steps_with_line, with_new_block}
+pub use Rattle.line_graph.specs.GrowingDrawings.{with_new_line}
+pub use Rattle.line_graph.specs.JoinedDrawings.{is_joined, joined_drawing}
+pub use Rattle.line_graph.specs.Needles.{steps_of_line}
+pub use Rattle.line_graph.specs.WalkEnds.{AreInDifferentPieces, HasNoEnds, IsValidDrawing, are_connected_spots, has_end_at_spot}
+pub use Rattle.line_graph.specs.WalkEnds.{is_junction, spot_added, walk_end_added}
+pub use Rattle.line_graph.specs.declared.draw_kind.DrawKind.{DrawKind}
 pub use Rattle.drawing_text.specs.CanonicalTexts.{block_text, blocks_text, canonical_text, canonical_text2, canonical_text_in, header_text}
 pub use Rattle.drawing_text.specs.CanonicalTexts.{label_text, line_text, lines_of_block, number_line_text, points_text}
 pub use Rattle.drawing_text.specs.CoordinateWords.{BeginsWithCoordinate, BeginsWithDigits, ends_word}
@@ -53,6 +53,6 @@ pub use Rattle.drawing_text.specs.declared.walk_end.WalkEnd.{WalkEnd}
 pub use Rattle.line_sections.specs.Lines.{LineValue}
 pub use Rattle.line_sections.specs.Sections.{lines_through}
 pub use Rattle.line_sections.specs.declared.spot.Spot.{Spot}
-pub use Rattle.lists_and_numbers.proofs.CallerLemmas.{decimal_model, decimal_read, signed_read, some_of}
-pub use Rattle.lists_and_numbers.specs.WholeNumbers.{is_digit_string, parsed_digits, parsed_whole, signed_number}
+pub use Rattle.design_model.proofs.ListLemmas.{decimal_model, decimal_read, signed_read, some_of}
+pub use Rattle.design_model.specs.WholeNumbers.{is_digit_string, parsed_digits, parsed_whole, signed_number}
 pub use Rattle.step_splitter.specs.Chains.{IsNeedlePoint, last_point_or}

@@ -3,7 +3,7 @@ use Rattle.std.proofs.Common.{ℕ, ◌+◌, ◌-◌, ◌<◌, ◌≤◌, ◌==�
 use Rattle.std.proofs.lemmas.List.{length-append}
 use Rattle.std.proofs.lemmas.List.Sorted.{IsNonDecreasingBy-push}
 use Rattle.drawing_text.proofs.Names.{nat_tests, map-append, All-head, All-nil, All-push, All-weaker, list_any, IsNonDecreasing, parsed_whole, Spot, LineValue, DrawingValue, all_in_needle_range, and_then, block_added, finished_drawing, is_drawing_label, is_last_empty, line_added, with_new_line, joined_drawing, HasNoEnds, are_connected_spots, is_junction, walk_end_added, after_both, unless, DrawingDraft, Version, WalkEnd, at_line, body_of_text, drawing_after_lines, drawing_in_version, drawing_of, drawing_of_draft, drawing_with_ends, joined_at, AreInBlockOrder, allows_ends, draft_after_words, empty_draft, is_before_blocks, parsed_count, parsed_point, parsed_points, with_color_line, with_name_line, with_points_line, with_step_line, with_walk_end_line, begins_comment, single_word, All-get_or, All-map, steps_with_line, spot_added, finished_none, joined_none, HasOrderedEnds, TextsOrderEnds, some_of}
-use Rattle.drawing_model.specs.declared.draw_kind.DrawKind.TheVariants as kind
+use Rattle.line_graph.specs.declared.draw_kind.DrawKind.TheVariants as kind
 use Rattle.drawing_text.proofs.PrintedBlocks.{Rises, rises_of}
 use Rattle.drawing_text.proofs.ValidTextLemmas.{any_ok, either, located, value_of, weaker, where_true}
 use Rattle.drawing_text.specs.declared.version.Version.TheVariants as version

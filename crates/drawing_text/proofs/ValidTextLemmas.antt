@@ -1,10 +1,10 @@
 -- What a text defines is valid: each text line keeps the draft's drawing a growing one.
 use Rattle.std.proofs.Common.{◌≡◌, ℕ, ◌+◌, ◌≤◌, ◌==◌, ◌&&◌, ◌||◌, Bool, true, false, not, nat_le, pos, negsuc, ℤ, List, [], ◌∷◌, Option, Some, None, Result, Ok, Err, IfOk, length, codes, bytes_eq, subst, refl, arith, if◌then◌else◌}
 use Rattle.drawing_text.proofs.Names.{and_parts, or_parts, nat_tests, All-nil, parsed_whole, DrawKind, DrawingValue, and_then, block_added, finished_drawing, is_drawing_label, line_added, joined_drawing, IsValidDrawing, walk_end_added, after_both, unless, DrawingDraft, Version, WalkEnd, Body, at_line, body_of_text, drawing_after_lines, drawing_as2, drawing_of, drawing_of_draft, drawing_in_version, drawing_with_ends, joined_at, allows_ends, draft_after_words, empty_draft, is_before_blocks, parsed_count, parsed_point, parsed_points, with_color_line, with_name_line, with_points_line, with_step_line, with_walk_end_line, begins_comment, single_word, drawing_of_body_as2, count_in_range}
-use Rattle.lists_and_numbers.specs.declared.whole_number.Whole.{Whole}
-use Rattle.lists_and_numbers.specs.declared.whole_number.Whole.TheVariants as whole
-use Rattle.drawing_model.specs.declared.draw_kind.DrawKind.TheVariants as kind
-use Rattle.drawing_model.specs.GrowingLimits.{BlocksKeepGrowing, EmptyDrawingsGrow, FinishedDrawingsAreValid, IsGrowingDrawing, IsValidJoinedDrawing, JoinedDrawingsAreValid, LabelsKeepGrowing, LinesKeepGrowing, StepsKeepGrowing, WalkEndsKeepValid}
+use Rattle.design_model.specs.declared.whole_number.Whole.{Whole}
+use Rattle.design_model.specs.declared.whole_number.Whole.TheVariants as whole
+use Rattle.line_graph.specs.declared.draw_kind.DrawKind.TheVariants as kind
+use Rattle.line_graph.specs.GrowingLimits.{BlocksKeepGrowing, EmptyDrawingsGrow, FinishedDrawingsAreValid, IsGrowingDrawing, IsValidJoinedDrawing, JoinedDrawingsAreValid, LabelsKeepGrowing, LinesKeepGrowing, StepsKeepGrowing, WalkEndsKeepValid}
 use Rattle.drawing_text.specs.declared.version.Version.TheVariants as version
 use Rattle.drawing_text.specs.ValidTexts.{TextsAs2DefineValidDrawings, TextsDefineValidDrawings}
 

@@ -1,7 +1,7 @@
 -- The coordinate that the first word of a line denotes. No public clause cites this file.
 use Rattle.std.specs.Prelude.{◌≡◌, ℕ, ℤ, ◌≤◌, Bool, true, List, [], ◌∷◌, Result, Ok, length, take, drop}
-use Rattle.lists_and_numbers.specs.WholeNumbers.{is_digit_string, parsed_digits, parsed_whole}
-use Rattle.drawing_model.specs.declared.draw_kind.DrawKind.{DrawKind}
+use Rattle.design_model.specs.WholeNumbers.{is_digit_string, parsed_digits, parsed_whole}
+use Rattle.line_graph.specs.declared.draw_kind.DrawKind.{DrawKind}
 use Rattle.drawing_text.specs.TextLines.{parsed_coordinate}
 use Rattle.drawing_text.specs.Words.{is_blank_byte, words_of_line}
 

@@ -1,13 +1,13 @@
 -- The drawing that a text describes, or the first fault of the text. Own format: lines of words,
 -- each of which is read in the light of the lines before it. Lines of the text are numbered from 1.
 use Rattle.std.specs.Prelude.{◌≡◌, ℕ, ◌+◌, ◌==◌, ◌&&◌, Bool, true, List, [], ◌∷◌, Option, Some, None, Result, Ok, Err, bytes_eq, codes, if◌then◌else◌}
-use Rattle.lists_and_numbers.specs.OutOfMemory.{IsSpecified}
-use Rattle.drawing_model.specs.declared.draw_kind.DrawKind.{DrawKind}
-use Rattle.drawing_model.specs.declared.draw_kind.DrawKind.TheVariants as kind
-use Rattle.drawing_model.specs.Drawings.{DrawingValue}
-use Rattle.drawing_model.specs.GrowingDrawings.{and_then, finished_drawing, draw_is_out_of_memory}
-use Rattle.drawing_model.specs.JoinedDrawings.{is_joined, joined_drawing}
-use Rattle.drawing_model.specs.WalkEnds.{HasNoEnds, walk_end_added}
+use Rattle.design_model.specs.OutOfMemory.{IsSpecified}
+use Rattle.line_graph.specs.declared.draw_kind.DrawKind.{DrawKind}
+use Rattle.line_graph.specs.declared.draw_kind.DrawKind.TheVariants as kind
+use Rattle.line_graph.specs.Drawings.{DrawingValue}
+use Rattle.line_graph.specs.GrowingDrawings.{and_then, finished_drawing, draw_is_out_of_memory}
+use Rattle.line_graph.specs.JoinedDrawings.{is_joined, joined_drawing}
+use Rattle.line_graph.specs.WalkEnds.{HasNoEnds, walk_end_added}
 use Rattle.drawing_text.specs.declared.draft.DrawingDraft.{DrawingDraft}
 use Rattle.drawing_text.specs.declared.draw_fault.DrawFault.{DrawFault}
 use Rattle.drawing_text.specs.declared.version.Version.{Version}

@@ -1,9 +1,9 @@
 -- The lines of a text as they are drawn, before any is cut where lines meet, or the first fault of
 -- the lines. Lines of the text are numbered from 1.
 use Rattle.std.specs.Prelude.{ℕ, ◌+◌, List, [], ◌∷◌, Result, Ok}
-use Rattle.lists_and_numbers.specs.OutOfMemory.{IsSpecified}
-use Rattle.drawing_model.specs.Drawings.{DrawingValue}
-use Rattle.drawing_model.specs.GrowingDrawings.{and_then, finished_drawing}
+use Rattle.design_model.specs.OutOfMemory.{IsSpecified}
+use Rattle.line_graph.specs.Drawings.{DrawingValue}
+use Rattle.line_graph.specs.GrowingDrawings.{and_then, finished_drawing}
 use Rattle.drawing_text.specs.declared.draft.DrawingDraft.{DrawingDraft}
 use Rattle.drawing_text.specs.declared.draw_fault.DrawFault.{DrawFault}
 use Rattle.drawing_text.specs.declared.drawn_lines.DrawnLines.{DrawnLines}

@@ -2,7 +2,7 @@
 -- come its starts, and then its ends. The lines are printed as they are drawn.
 use Rattle.std.specs.Prelude.{ℕ, ◌+◌, ◌==◌, ◌&&◌, List, [], ◌∷◌, ◌++◌, codes, filter, length, if◌then◌else◌}
 use Rattle.std.specs.List.{flat_map}
-use Rattle.drawing_model.specs.Drawings.{DrawingValue}
+use Rattle.line_graph.specs.Drawings.{DrawingValue}
 use Rattle.line_sections.specs.declared.spot.Spot.{Spot}
 use Rattle.drawing_text.specs.declared.version.Version.TheVariants as version
 use Rattle.drawing_text.specs.CanonicalTexts.{block_text, canonical_text2, header_text, label_text, number_line_text, spaced_point_text}

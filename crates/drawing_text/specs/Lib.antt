@@ -1,9 +1,9 @@
 -- Definitions of a lower crate that public clauses cite.
-pub use Rattle.drawing_model.specs.Drawings
-pub use Rattle.drawing_model.specs.GrowingDrawings
-pub use Rattle.drawing_model.specs.GrowingLimits
-pub use Rattle.drawing_model.specs.JoinedDrawings
-pub use Rattle.drawing_model.specs.WalkEnds
+pub use Rattle.line_graph.specs.Drawings
+pub use Rattle.line_graph.specs.GrowingDrawings
+pub use Rattle.line_graph.specs.GrowingLimits
+pub use Rattle.line_graph.specs.JoinedDrawings
+pub use Rattle.line_graph.specs.WalkEnds
 pub mod Words
 pub mod CanonicalTexts
 pub mod EndTexts

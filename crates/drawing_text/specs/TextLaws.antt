@@ -1,15 +1,15 @@
 -- Laws of texts: a canonical text is read as the drawing whose text it is, and its lines as they
 -- were drawn. A text lists starts and ends in the order of their blocks.
 use Rattle.std.specs.Prelude.{◌≡◌, ℕ, List, [], Ok}
-use Rattle.drawing_model.specs.Drawings.{DrawingValue, KeepsDrawingLimits}
-use Rattle.drawing_model.specs.JoinedDrawings.{joined_drawing}
-use Rattle.drawing_model.specs.WalkEnds.{HasNoEnds, IsValidDrawing}
+use Rattle.line_graph.specs.Drawings.{DrawingValue, KeepsDrawingLimits}
+use Rattle.line_graph.specs.JoinedDrawings.{joined_drawing}
+use Rattle.line_graph.specs.WalkEnds.{HasNoEnds, IsValidDrawing}
 use Rattle.drawing_text.specs.declared.version.Version.TheVariants as version
 use Rattle.drawing_text.specs.CanonicalTexts.{canonical_text, canonical_text2}
 use Rattle.drawing_text.specs.DrawingText.{drawing_of}
 use Rattle.drawing_text.specs.DrawnTexts.{drawing_as_drawn, lines_of}
 use Rattle.drawing_text.specs.EndTexts.{canonical_text3, drawn_text, with_ends_of}
-use Rattle.drawing_model.specs.EndOrders.{HasOrderedEnds}
+use Rattle.line_graph.specs.EndOrders.{HasOrderedEnds}
 
 -- The canonical text of a drawing without starts and ends is read as that drawing.
 abbrev pub CanonicalTextIsRead : Type 0

@@ -1,8 +1,8 @@
 -- A text defines only valid drawings: within the limits of a drawing, with valid starts and ends.
 use Rattle.std.specs.Prelude.{◌≡◌, ℕ, List, Ok}
-use Rattle.drawing_model.specs.Drawings.{DrawingValue}
-use Rattle.drawing_model.specs.GrowingLimits.{IsValidJoinedDrawing}
-use Rattle.drawing_model.specs.WalkEnds.{IsValidDrawing}
+use Rattle.line_graph.specs.Drawings.{DrawingValue}
+use Rattle.line_graph.specs.GrowingLimits.{IsValidJoinedDrawing}
+use Rattle.line_graph.specs.WalkEnds.{IsValidDrawing}
 use Rattle.drawing_text.specs.DrawingText.{drawing_as2, drawing_of}
 
 -- A drawing that a text describes in the version that its header names is valid.

@@ -1,16 +1,15 @@
 ghost use Rattle.design_model.specs.declared.point.TheConstants.{NEEDLE_LIMIT as needle_limit};
 ghost use Rattle.drawing_text.specs.CoordinateWords.{BeginsWithCoordinate, BeginsWithDigits, ends_word};
 ghost use Rattle.drawing_text.specs.Words.{words_of_line};
-ghost use Rattle.lists_and_numbers.specs.WholeNumbers.{signed_number};
 ghost use Rattle.std.specs.Char.{digit_value, is_ascii_digit};
-ghost use Rattle.std.specs.Prelude.{◌≡◌, ◌+◌, ◌*◌, ◌<◌, ◌≤◌, Ok, true, [], ◌∷◌, drop, length, take, unsigned_abs, IfNone, IfOk, IfSome};
+ghost use Rattle.std.specs.Prelude.{◌≡◌, ◌+◌, ◌*◌, ◌<◌, ◌≤◌, Ok, true, [], ◌∷◌, length, take, unsigned_abs, IfNone, IfOk, IfSome};
 ghost use Rattle.std.specs.Str.Parse.{digits_value};
 ghost use Rattle.std.specs.Str.{all_ascii_digits};
 
 use crate::number_words::coordinate;
 use crate::text_words::{is_blank, next_word};
-use design_model::NEEDLE_LIMIT;
-use drawing_model::DrawKind;
+use design_model::{NEEDLE_LIMIT, signed};
+use line_graph::DrawKind;
 
 // Inline down to the digits: as calls they would pass each position and each result through memory.
 /// Returns the coordinate that the first word of a line denotes, or its fault, and the line after the word.
@@ -174,11 +173,4 @@ fn is_word_end(rest: &[u8]) -> bool
         [first, ..] => is_blank(*first),
         [] => true,
     }
-}
-
-fn signed(minus: bool, size: u32) -> i32
-    requires { size ≤ needle_limit }
-    ensures { result ≡ signed_number minus size }
-{
-    if minus { -(size as i32) } else { size as i32 }
 }

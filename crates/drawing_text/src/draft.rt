@@ -1,10 +1,10 @@
-ghost use Rattle.drawing_model.specs.GrowingDrawings.{ChangesAsSpecified, and_then, finished_drawing, draw_is_out_of_memory};
-ghost use Rattle.drawing_model.specs.JoinedDrawings.{joined_drawing};
+ghost use Rattle.design_model.specs.OutOfMemory.{IsSpecified};
 ghost use Rattle.drawing_text.specs.DrawingText.{IsDrawingOfVersion, IsJoinedWithoutEnds, ReadsDrawing, at_line, joined_at, drawing_of_draft};
 ghost use Rattle.drawing_text.specs.TextLines.{with_color_line, with_walk_end_line, empty_draft, allows_ends, draft_after_words, with_points_line, with_name_line, with_step_line};
 ghost use Rattle.drawing_text.specs.Words.{single_word, words_of_line};
 ghost use Rattle.drawing_text.specs.declared.version.Version.TheVariants as version;
-ghost use Rattle.lists_and_numbers.specs.OutOfMemory.{IsSpecified};
+ghost use Rattle.line_graph.specs.GrowingDrawings.{ChangesAsSpecified, and_then, finished_drawing, draw_is_out_of_memory};
+ghost use Rattle.line_graph.specs.JoinedDrawings.{joined_drawing};
 ghost use Rattle.std.specs.Prelude.{◌≡◌, IfOk};
 
 use crate::draw_fault::{DrawFault, fault_with_line};
@@ -14,7 +14,7 @@ use crate::point_words::{point_of_words, points_of_words};
 use crate::text_words::{is_comment, next_word, only_word};
 use crate::version::Version;
 use crate::walk_end::{WalkEnd, WalkEnds};
-use drawing_model::{DrawKind, Drawing, DrawingMaker, Spot, is_label_word, join};
+use line_graph::{DrawKind, Drawing, DrawingMaker, Spot, is_label_word, join};
 use std::alloc::Global;
 use step_splitter::MAX_STEP;
 use text_parts::equals_text;

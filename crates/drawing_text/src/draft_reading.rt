@@ -1,8 +1,8 @@
+ghost use Rattle.design_model.specs.declared.limits.TheConstants.{MAX_FILE};
 ghost use Rattle.drawing_text.specs.DrawingText.{ReadsDrawing, drawing_after_lines, drawing_of_draft};
 ghost use Rattle.drawing_text.specs.DrawnTexts.{ReadsLines, lines_after, lines_of_draft};
 ghost use Rattle.drawing_text.specs.TextLines.{empty_draft};
 ghost use Rattle.drawing_text.specs.Words.{words_by_line};
-ghost use Rattle.lists_and_numbers.specs.declared.limits.TheConstants.{MAX_FILE};
 ghost use Rattle.std.specs.Prelude.{◌≡◌, ◌+◌, ◌≤◌, Err, IfErr, IfOk, length};
 
 use crate::draft::DrawingDraft;

@@ -1,7 +1,7 @@
 ghost use Rattle.drawing_text.specs.DrawingText.{located_fault};
 ghost use Rattle.std.specs.Prelude.{◌≡◌};
 
-use drawing_model::DrawKind;
+use line_graph::DrawKind;
 
 /// The first fault of a drawing text, and the number of the text line at which it is reported. Text lines
 /// are numbered from 1. With `Memory` the number is 0.

@@ -1,8 +1,8 @@
+ghost use Rattle.design_model.specs.declared.limits.TheConstants.{MAX_FILE};
 ghost use Rattle.drawing_text.specs.DrawnTexts.{ReadsLines, lines_after, lines_of, lines_of_draft};
 ghost use Rattle.drawing_text.specs.TextLines.{empty_draft};
 ghost use Rattle.drawing_text.specs.Words.{words_by_line};
-ghost use Rattle.lists_and_numbers.specs.declared.limits.TheConstants.{MAX_FILE};
-ghost use Rattle.std.specs.Prelude.{◌≡◌, ◌+◌, ◌≤◌, length};
+ghost use Rattle.std.specs.Prelude.{◌+◌, ◌≤◌, length};
 
 use crate::draft::DrawingDraft;
 use crate::draft_reading::draft_of_lines;
@@ -10,7 +10,7 @@ use crate::draw_fault::{DrawFault, fault_with_line};
 use crate::reading::find_body;
 use crate::version::Version;
 use crate::walk_end::WalkEnds;
-use drawing_model::Drawing;
+use line_graph::Drawing;
 use std::alloc::Global;
 
 /// The lines of a text as they are drawn: none is cut where lines meet. Starts and ends are the spots that

@@ -1,16 +1,16 @@
-ghost use Rattle.drawing_model.specs.EndOrders.{HasOrderedEnds};
-ghost use Rattle.drawing_model.specs.WalkEnds.{HasNoEnds};
 ghost use Rattle.drawing_text.specs.DrawingText.{drawing_of};
 ghost use Rattle.drawing_text.specs.DrawnTexts.{drawing_as_drawn};
 ghost use Rattle.drawing_text.specs.EndTexts.{block_text3, blocks_text3, canonical_text3, drawn_text, end_line_text, end_lines_text, with_ends_of};
 ghost use Rattle.drawing_text.specs.TextLaws.{IsJoinedFrom};
+ghost use Rattle.line_graph.specs.EndOrders.{HasOrderedEnds};
+ghost use Rattle.line_graph.specs.WalkEnds.{HasNoEnds};
 ghost use Rattle.std.specs.Prelude.{◌≡◌, ◌++◌, IfOk, Ok, OnOk};
 
 use crate::printing::{put_header, put_label, put_lines_of, put_number, put_point, spelled};
 use crate::theorems::drawn_texts_are_read;
 use crate::version::Version;
-use drawing_model::{Drawing, Spot};
-use lists_and_numbers::{Bytes, Memory};
+use design_model::{Bytes, Memory};
+use line_graph::{Drawing, Spot};
 use std::alloc::Global;
 
 /// Returns the canonical text of lines as they are drawn, with the starts and ends of their joined drawing:

@@ -1,13 +1,12 @@
-ghost use Rattle.drawing_model.specs.GrowingDrawings.{ChangesAsSpecified};
-ghost use Rattle.drawing_model.specs.JoinedDrawings.{is_joined};
-ghost use Rattle.drawing_model.specs.WalkEnds.{HasNoEnds, walk_end_added};
 ghost use Rattle.drawing_text.specs.DrawingText.{ReadsDrawing, drawing_with_ends};
+ghost use Rattle.line_graph.specs.GrowingDrawings.{ChangesAsSpecified};
+ghost use Rattle.line_graph.specs.JoinedDrawings.{is_joined};
+ghost use Rattle.line_graph.specs.WalkEnds.{HasNoEnds, walk_end_added};
 ghost use Rattle.std.specs.Prelude.{◌≡◌, true};
 
 use crate::draw_fault::{DrawFault, fault_with_line};
 use crate::walk_end::WalkEnd;
-use drawing_model::{DrawKind, Drawing};
-use line_graph::EndsMaker;
+use line_graph::{DrawKind, Drawing, EndsMaker};
 use std::alloc::Global;
 
 /// Returns the drawing with the given starts and ends, or the first fault of one of them, at the text line

@@ -1,11 +1,10 @@
+ghost use Rattle.design_model.specs.WholeNumbers.{parsed_whole};
 ghost use Rattle.design_model.specs.declared.point.TheConstants.{NEEDLE_LIMIT as needle_limit};
 ghost use Rattle.drawing_text.specs.TextLines.{parsed_coordinate, count_in_range, parsed_count};
-ghost use Rattle.lists_and_numbers.specs.WholeNumbers.{parsed_whole};
 ghost use Rattle.std.specs.Prelude.{◌≡◌, IfOk, ◌≤◌, unsigned_abs};
 
-use design_model::NEEDLE_LIMIT;
-use drawing_model::DrawKind;
-use lists_and_numbers::{Whole, parse_whole};
+use design_model::{NEEDLE_LIMIT, Whole, parse_whole};
+use line_graph::DrawKind;
 
 /// Returns the number from `low` to `high` that a word denotes. Errors: `BadNumber` where it is no number,
 /// `OutOfRange`.

@@ -1,7 +1,7 @@
-ghost use Rattle.drawing_model.specs.GrowingDrawings.{draw_is_out_of_memory};
+ghost use Rattle.design_model.specs.OutOfMemory.{IsSpecified};
 ghost use Rattle.drawing_text.specs.TextLines.{parsed_point, parsed_points};
 ghost use Rattle.drawing_text.specs.Words.{words_of_line};
-ghost use Rattle.lists_and_numbers.specs.OutOfMemory.{IsSpecified};
+ghost use Rattle.line_graph.specs.GrowingDrawings.{draw_is_out_of_memory};
 ghost use Rattle.std.specs.Prelude.{◌≡◌, All, IfOk};
 ghost use Rattle.step_splitter.specs.Chains.{IsNeedlePoint};
 
@@ -9,7 +9,7 @@ use crate::coordinate_words::next_coordinate;
 use crate::number_words::coordinate;
 use crate::text_words::{next_word, only_word};
 use design_model::{Point, Points};
-use drawing_model::DrawKind;
+use line_graph::DrawKind;
 use std::alloc::Global;
 
 /// Returns the point whose coordinates are the only two words of a line.

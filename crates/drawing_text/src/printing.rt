@@ -1,14 +1,13 @@
-ghost use Rattle.drawing_model.specs.WalkEnds.{HasNoEnds};
 ghost use Rattle.drawing_text.specs.CanonicalTexts.{header_text, canonical_text, canonical_text2, canonical_text_in, label_text, number_line_text, blocks_text, line_text, lines_of_block, points_text, spaced_point_text};
 ghost use Rattle.drawing_text.specs.DrawingText.{IsJoinedWithoutEnds, drawing_of};
+ghost use Rattle.line_graph.specs.WalkEnds.{HasNoEnds};
 ghost use Rattle.std.specs.List.{flat_map};
 ghost use Rattle.std.specs.Prelude.{◌≡◌, ◌≤◌, ◌++◌, ◌∷◌, [], length, Ok, IfOk, OnOk};
 
 use crate::theorems::{canonical_text_is_read, drawn_texts_are_read};
 use crate::version::Version;
-use design_model::Point;
-use drawing_model::{Drawing, Line, MAX_BLOCKS, joined_drawings_stay};
-use lists_and_numbers::{Bytes, Memory, put_decimal};
+use design_model::{Bytes, Memory, Point, put_decimal};
+use line_graph::{Drawing, Line, MAX_BLOCKS, joined_drawings_stay};
 use std::alloc::Global;
 
 /// Returns the canonical text, in version 1, of a drawing without starts and ends. Reading the text returns

@@ -1,14 +1,14 @@
+ghost use Rattle.design_model.specs.declared.limits.TheConstants.{MAX_FILE};
 ghost use Rattle.drawing_text.specs.DrawingText.{IsDrawingOfVersion, IsJoinedWithoutEnds, ReadsDrawing, body_of_text, drawing_as2, drawing_of, drawing_after_lines, parsed_header, parsed_version};
 ghost use Rattle.drawing_text.specs.TextLines.{empty_draft};
 ghost use Rattle.drawing_text.specs.Words.{is_ignored_line, words_by_line, words_of_line};
-ghost use Rattle.lists_and_numbers.specs.declared.limits.TheConstants.{MAX_FILE};
 ghost use Rattle.std.specs.Prelude.{◌≡◌, ◌+◌, ◌≤◌, Ok, Err, length, IfOk, IfErr};
 
 use crate::draft_reading::draft_of_lines;
 use crate::draw_fault::{DrawFault, fault_with_line};
 use crate::text_words::{is_comment, next_line, next_word, only_word, without_return};
 use crate::version::Version;
-use drawing_model::{DrawKind, Drawing};
+use line_graph::{DrawKind, Drawing};
 use std::alloc::Global;
 use text_parts::equals_text;
 

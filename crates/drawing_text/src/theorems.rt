@@ -1,7 +1,7 @@
 ghost use Rattle.drawing_text.specs.TextLaws.{CanonicalText2IsRead, CanonicalText2KeepsLines, CanonicalText3IsRead, CanonicalText3KeepsLines, CanonicalTextIsRead, DrawnTextIsRead, DrawnTextKeepsLines, TextsOrderEnds};
 ghost use Rattle.drawing_text.specs.ValidTexts.{TextsAs2DefineValidDrawings, TextsDefineValidDrawings};
 
-use drawing_model::{
+use line_graph::{
     growing_drawings_keep_limits, joined_drawings_are_valid, walk_ends_keep_drawings_valid,
 };
 

@@ -1,4 +1,4 @@
-use drawing_model::Spot;
+use line_graph::Spot;
 
 /// A text line that names a start or an end: the number of the text line, which of the two it is, and the
 /// spot.
@@ -10,4 +10,4 @@ pub struct WalkEnd {
 }
 
 /// The starts and ends that the lines of a text name, in order.
-pub type WalkEnds = lists_and_numbers::Items<WalkEnd>;
+pub type WalkEnds = design_model::Items<WalkEnd>;

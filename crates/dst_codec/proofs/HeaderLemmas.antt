@@ -3,7 +3,7 @@ use Rattle.std.proofs.Common.{◌≡◌, ℕ, ◌+◌, ◌^◌, ◌<◌, ◌≤�
 use Rattle.std.proofs.lemmas.Fmt.{length-decimal-le}
 use Rattle.dst_codec.proofs.Names.{nat_tests, NumberedAct, MAX_LABEL, Point, is_point_within, origin, label_field, needle_position_along, HeaderNumbers, HEADER_LENGTH, FitsFields, size_above_zero, size_below_zero, max_measure, field, dst_header_of, within_parts, length-replicate, padded_left, needle_position_after, stops_of, number_field, signed_field, fields_of, numbers_of, are_in_range, length-padded_right}
 use Rattle.design_model.specs.declared.point.TheConstants.{NEEDLE_LIMIT}
-use Rattle.lists_and_numbers.proofs.CallerLemmas.{size-neg}
+use Rattle.design_model.proofs.ListLemmas.{size-neg}
 
 length-padded_left : (places : ℕ) (text : List ℕ) → length text ≤ places → length (padded_left places text) ≡ places
 length-padded_left places text fits = grind (arith, nat_tests, length-replicate, length-append)

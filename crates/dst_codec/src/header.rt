@@ -4,10 +4,9 @@ ghost use Rattle.dst_codec.specs.declared.header.TheConstants.{HEADER_LENGTH};
 ghost use Rattle.format_traits.specs.LabelFields.{padded_left, label_field};
 ghost use Rattle.std.specs.Prelude.{◌≡◌, ◌++◌, ◌<◌, ◌≤◌, ◌^◌, [], length, decimal, neg_ℤ, codes, OnOk, IfOk, unsigned_abs};
 
-use design_model::{MAX_LABEL, Point};
+use design_model::{Bytes, MAX_LABEL, Memory, Point};
 use format_traits::{put_label, put_spaces};
 use itoa::Buffer;
-use lists_and_numbers::{Bytes, Memory};
 use std::alloc::Global;
 
 /// The number of bytes of a header.

@@ -46,12 +46,12 @@ impl RecordReader for JumpRun {
         let kind = record_kind(*third);
         let jumps = self.jumps;
         self.jumps = run_after(kind, jumps);
-        cut_record(kind, at, jumps, step)
+        split_record(kind, at, jumps, step)
     }
 }
 
 /// Decodes a record of a kind by its move, after a run of `jumps` jump records.
-fn cut_record(kind: RecordKind, at: u64, jumps: u8, step: Point) -> NextRecord
+fn split_record(kind: RecordKind, at: u64, jumps: u8, step: Point) -> NextRecord
     requires { IsTrue (is_point_within LIMIT step) }
     ensures { DecodesRecordAs kind at jumps step result }
 {
@@ -64,7 +64,7 @@ fn cut_record(kind: RecordKind, at: u64, jumps: u8, step: Point) -> NextRecord
             event: jump_after(jumps, step),
             size: 3,
         },
-        RecordKind::Stop | RecordKind::Sequin | RecordKind::End => cut_other(kind, at, step),
+        RecordKind::Stop | RecordKind::Sequin | RecordKind::End => split_other(kind, at, step),
     }
 }
 
@@ -82,7 +82,7 @@ fn jump_after(jumps: u8, step: Point) -> Event
 /// reader's loop.
 #[cold]
 #[inline(never)]
-fn cut_other(kind: RecordKind, at: u64, step: Point) -> NextRecord
+fn split_other(kind: RecordKind, at: u64, step: Point) -> NextRecord
     requires kind { is_stop_sequin_or_end kind ≡ true }
     requires step { IsTrue (is_point_within LIMIT step) }
     ensures { (run : ℕ) → DecodesRecordAs kind at run step result }

@@ -5,9 +5,8 @@ ghost use Rattle.std.specs.Prelude.{◌≡◌, ◌≤◌, ◌++◌, IsTrue, OnOk
 
 use crate::dst::WRITE_LIMITS;
 use crate::move_encoding::{JUMP, encode_record};
-use design_model::Point;
+use design_model::{Bytes, Memory, Point};
 use format_traits::WriteLimits;
-use lists_and_numbers::{Bytes, Memory};
 use record_formats::RecordWriter;
 
 /// The records of a trim: three jumps that lead back to where they began.

@@ -10,9 +10,8 @@ use crate::extents::needle_extents;
 use crate::header::{HEADER_LENGTH, HeaderNumbers, new_header};
 use crate::records::DstWriter;
 use crate::theorems::written_reads_again;
-use design_model::Design;
+use design_model::{Bytes, Design};
 use format_traits::{EncoderState, WriteFault, accepted_designs_are_small, put_spaces, with_front};
-use lists_and_numbers::Bytes;
 use record_formats::ActRecords;
 use std::alloc::Global;
 

@@ -3,9 +3,9 @@ use Rattle.std.proofs.Common.{◌≡◌, ◌∙◌, ℕ, ◌<◌, ◌+◌, ◌==
 use Rattle.std.proofs.lemmas.List.Elements.{All-map, All-weaker}
 use Rattle.std.specs.List.{count_by}
 use Rattle.edit_laws.proofs.Names.{length-map, map-append, list_any, Point, is_same_point, moved_drawing, with_moved_line, with_moved_spot, DrawingValue, endpoints, Spot, LineValue, get_or-map, fold, list_all, KeepsDrawingLimits, points_of_lines}
-use Rattle.drawing_model.specs.GrowingLimits.{IsValidJoinedDrawing}
-use Rattle.drawing_model.specs.JoinedDrawings.{is_joined}
-use Rattle.drawing_model.specs.WalkEnds.{AreInDifferentPieces, are_connected_spots, end_spots, has_end_at_spot, is_junction, merged_representative, representative}
+use Rattle.line_graph.specs.GrowingLimits.{IsValidJoinedDrawing}
+use Rattle.line_graph.specs.JoinedDrawings.{is_joined}
+use Rattle.line_graph.specs.WalkEnds.{AreInDifferentPieces, are_connected_spots, end_spots, has_end_at_spot, is_junction, merged_representative, representative}
 use Rattle.line_sections.specs.Sections.{but_last, inner_points, is_shared_point, is_whole_line, listed_in}
 use Rattle.line_sections.specs.Spots.{is_same_spot}
 use Rattle.edit_laws.proofs.MovedLines.{endpoints_moved, listed_moved}

@@ -4,10 +4,10 @@ use Rattle.std.specs.Prelude.{◌≡◌, ℕ, List, length}
 use Rattle.design_edits.specs.declared.axis.Axis.{Axis}
 use Rattle.drawing_edits.specs.MovedDrawings.{mirrored_drawing, turned_drawing}
 use Rattle.line_graph.specs.declared.pass.Pass.{Pass}
-use Rattle.drawing_model.specs.Drawings.{DrawingValue}
+use Rattle.line_graph.specs.Drawings.{DrawingValue}
 use Rattle.line_graph.specs.Pieces.{ArePieces}
 use Rattle.line_graph.specs.Walks.{needles_of_walk}
-use Rattle.drawing_model.specs.LineNeedles.{cost_of_line}
+use Rattle.line_graph.specs.LineNeedles.{cost_of_line}
 use Rattle.odd_cuts.specs.declared.cut.Cut.{Cut}
 use Rattle.odd_cuts.specs.DrawnCuts.{IsPackingOver}
 

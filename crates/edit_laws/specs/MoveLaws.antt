@@ -5,8 +5,8 @@ use Rattle.design_edits.specs.Motions.{motion_map}
 use Rattle.drawing_edits.specs.declared.drawing_edit.DrawingEdit.TheVariants as edit
 use Rattle.drawing_edits.specs.EditedDrawings.{edited_drawing}
 use Rattle.drawing_edits.specs.MovedDrawings.{moved_drawing}
-use Rattle.drawing_model.specs.Drawings.{DrawingValue, KeepsDrawingLimits}
-use Rattle.drawing_model.specs.GrowingLimits.{IsValidJoinedDrawing}
+use Rattle.line_graph.specs.Drawings.{DrawingValue, KeepsDrawingLimits}
+use Rattle.line_graph.specs.GrowingLimits.{IsValidJoinedDrawing}
 
 -- A valid joined drawing that is shifted, turned or mirrored is drawn as exactly the moved drawing,
 -- where this keeps the limits of a drawing.

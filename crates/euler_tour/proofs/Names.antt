@@ -23,4 +23,4 @@ pub use Rattle.line_graph.specs.PiecesOfDrawings.{graph_of}
 pub use Rattle.line_graph.specs.ValidPieces.{IsConnectedGraph, IsValidPiece, all_below, ends_below}
 pub use Rattle.line_graph.specs.declared.edge.Edge.{Edge}
 pub use Rattle.line_graph.specs.declared.pass.Pass.{Pass}
-pub use Rattle.lists_and_numbers.proofs.CallerLemmas.{differs, differs_back, half, half_more, one_before, same_number, same_test, some_same}
+pub use Rattle.design_model.proofs.ListLemmas.{differs, differs_back, half, half_more, one_before, same_number, same_test, some_same}

@@ -1,7 +1,7 @@
 -- Partial tours: the state of Hierholzer's algorithm. The way out is its stack, and the walk home
 -- is the tour.
 use Rattle.std.specs.Prelude.{◌≡◌, ℕ, ◌+◌, ◌*◌, ◌%◌, ◌<◌, ◌≤◌, ◌==◌, ◌⊎◌, Bool, true, false, List, [], ◌∷◌, Option, Some, None, Result, Ok, Err, length, map, get_or, slice_get, sum_by}
-use Rattle.lists_and_numbers.specs.declared.memory.Memory.{Memory}
+use Rattle.design_model.specs.declared.memory.Memory.{Memory}
 use Rattle.line_graph.specs.declared.edge.Edge.{Edge}
 use Rattle.line_graph.specs.declared.pass.Pass.{Pass}
 use Rattle.line_graph.specs.ValidPieces.{all_below}

@@ -3,8 +3,8 @@ ghost use Rattle.line_graph.specs.PiecesOfDrawings.{graph_of};
 ghost use Rattle.std.specs.Prelude.{IfOk};
 
 use crate::partial_tour::{begin, step};
+use design_model::Memory;
 use line_graph::{Piece, Walk};
-use lists_and_numbers::Memory;
 use std::alloc::Global;
 
 /// Returns a walk over a piece that passes the line at each index once, and once more for each of its

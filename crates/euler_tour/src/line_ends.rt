@@ -4,8 +4,8 @@ ghost use Rattle.line_graph.specs.PieceGraphs.{is_odd as odd};
 ghost use Rattle.line_graph.specs.ValidPieces.{ends_below};
 ghost use Rattle.std.specs.Prelude.{◌≡◌, ◌+◌, ◌*◌, ◌/◌, ◌<◌, true, Some, length, set, IfOk, OnOk};
 
+use design_model::Memory;
 use line_graph::{Edge, Pass};
-use lists_and_numbers::Memory;
 use std::alloc::Global;
 
 /// The ends of lines in linked lists, one for each junction. An end's number is its index plus one, and 0

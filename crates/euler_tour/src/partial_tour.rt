@@ -10,8 +10,8 @@ use crate::line_ends::{
     LineEnds, chain, junction_beyond, junction_of, line_index_of, pass_back, skip_end,
 };
 use crate::remaining_lines::{all_times, take_one};
+use design_model::Memory;
 use line_graph::{Edge, Pass, Piece, Walk};
-use lists_and_numbers::Memory;
 use std::alloc::Global;
 
 /// A partial tour. `left` has the number of passes that remain of each line. `out` is a way from the required

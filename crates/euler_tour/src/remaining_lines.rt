@@ -2,7 +2,7 @@ ghost use Rattle.euler_tour.specs.RemainingLines.{decremented_at, pass_counts};
 ghost use Rattle.line_graph.specs.ValidPieces.{all_below};
 ghost use Rattle.std.specs.Prelude.{◌≡◌, ◌<◌, ◌≤◌, true, length, get_or, IfOk};
 
-use lists_and_numbers::Memory;
+use design_model::Memory;
 use std::alloc::Global;
 
 /// Returns the number of passes of each line: one, and one more for each copy.

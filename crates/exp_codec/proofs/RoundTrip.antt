@@ -6,7 +6,7 @@ use Rattle.format_traits.specs.Laws.{HasSameActs, IsCodec}
 use Rattle.record_formats.specs.RoundTrip.{EncodedEvents, DecodesEncoding, DecodeToActs, EncodedActsRoundTrip}
 use Rattle.exp_codec.proofs.UnitLemmas.{reads_units, two_at}
 use Rattle.design_model.proofs.CallerLemmas.{point_of_parts}
-use Rattle.lists_and_numbers.proofs.CallerLemmas.{neg-neg}
+use Rattle.design_model.proofs.ListLemmas.{neg-neg}
 
 -- a number is decoded as it was encoded, and no encoded number is 80
 signed_byte-byte_of_number : (z : ℤ) → unsigned_abs z ≤ LIMIT → (signed_byte (byte_of_number z) ≡ z) × (byte_of_number z ≢ 0x80)

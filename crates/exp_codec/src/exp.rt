@@ -3,9 +3,8 @@ ghost use Rattle.std.specs.Prelude.{refl};
 
 use crate::units::Units;
 use crate::writing::write_file;
-use design_model::Design;
+use design_model::{Bytes, Design};
 use format_traits::{Codec, FedFormat, WriteFault};
-use lists_and_numbers::Bytes;
 use record_formats::RecordDecoder;
 use std::alloc::Global;
 

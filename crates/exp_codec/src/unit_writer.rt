@@ -5,9 +5,8 @@ ghost use Rattle.std.specs.Prelude.{◌≡◌, ◌≤◌, IsTrue, unsigned_abs};
 
 use crate::exp::LIMIT;
 use crate::units::{CONTROL, JUMP, STOP, TRIM, Units, opposite};
-use design_model::Point;
+use design_model::{Bytes, Memory, Point};
 use format_traits::WriteLimits;
-use lists_and_numbers::{Bytes, Memory};
 use record_formats::RecordWriter;
 
 impl RecordWriter for Units {

@@ -4,9 +4,8 @@ ghost use Rattle.format_traits.specs.Laws.{KeepsLaws, EncodesTo};
 
 use crate::theorems::written_reads_again;
 use crate::units::Units;
-use design_model::Design;
+use design_model::{Bytes, Design};
 use format_traits::WriteFault;
-use lists_and_numbers::Bytes;
 use record_formats::ActRecords;
 use std::alloc::Global;
 

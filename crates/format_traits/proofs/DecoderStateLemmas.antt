@@ -14,10 +14,10 @@ passes_on {old} {middle} {new} start at size whole pending rest left behind on t
 }
 
 -- no byte is lost between those that are left and those that are added
-pub passes_sum : (start at size : ℕ) (before piece pending rest left behind : List ℕ)
-    → (at + length pending) + length rest ≡ (start + length before) + length piece → size ≤ length pending
-    → left ++ behind ≡ drop size pending ++ rest → ((at + size) + length left) + length behind ≡ (start + length before) + length piece
-passes_sum start at size before piece pending rest left behind sum there same =
+pub passes_sum : (start at size : ℕ) (before chunk pending rest left behind : List ℕ)
+    → (at + length pending) + length rest ≡ (start + length before) + length chunk → size ≤ length pending
+    → left ++ behind ≡ drop size pending ++ rest → ((at + size) + length left) + length behind ≡ (start + length before) + length chunk
+passes_sum start at size before chunk pending rest left behind sum there same =
     let parts : length left + length behind ≡ length (drop size pending) + length rest =
     sym (length-append left behind) ∙ ap length same ∙ length-append (drop size pending) rest in
     omega (arith, sum, there, parts, length-drop size pending)

@@ -2,7 +2,7 @@
 use Rattle.std.proofs.Common.{◌≡◌, ℕ, ◌+◌, true, false, Bool, IsTrue, IsOk, IsOkAnd, IfOk, List, [], ◌∷◌, ◌++◌, None, Some, Result, Ok, Err, arith, subst, sym, true≢false, ◌∙◌}
 use Rattle.std.specs.List.{list_all}
 use Rattle.format_traits.proofs.Names.{Command, acts_of, DesignValue, origin, WriteLimits, ReadFault, WriteFault, Loaded, AcceptedIsWithinLimits, IsFed, CodecsKeepLaws, HasSameActs, RoundTrips, Meaning, IsPlain, are_plain_from, first_refusal, stops_of, room_of, acts_without_numbers, KeepsLimits, is_point_within, FeedState, Feeds, Finishes, HasNothingFed, IsCodec, KeepsAllLaws, KeepsLaws}
-use Rattle.lists_and_numbers.specs.declared.memory.Memory.{Memory}
+use Rattle.design_model.specs.declared.memory.Memory.{Memory}
 use Rattle.format_traits.specs.declared.fault.ReadFault.TheVariants as read
 
 -- a plain design has up to 254 stops and room for up to a million commands
@@ -88,9 +88,9 @@ pub known_not_fed : Feeds {T = ℕ} (fed true 5) (7 ∷ 8 ∷ []) (Ok 0) (fed fa
 known_not_fed is = true≢false is.was
 
 -- a chunk comes before what remains
-pub known_chunk : (old new : FeedState) (piece more : List ℕ) → IsFed old piece new
-    → (new.rest more ≡ old.rest (piece ++ more)) × (new.decoded more ≡ old.decoded (piece ++ more)) × (new.spoiled ≡ false)
-known_chunk old new piece more is = (is.rest more, is.decoded more, is.sound)
+pub known_chunk : (old new : FeedState) (chunk more : List ℕ) → IsFed old chunk new
+    → (new.rest more ≡ old.rest (chunk ++ more)) × (new.decoded more ≡ old.decoded (chunk ++ more)) × (new.spoiled ≡ false)
+known_chunk old new chunk more is = (is.rest more, is.decoded more, is.sound)
 
 -- what is finished is what was fed, and the next file begins with nothing
 pub known_finished : (reads : List ℕ → Result Loaded ReadFault) (shown : List ℕ → List Command) (old new : FeedState) (l : Loaded)

@@ -48,9 +48,9 @@ pub record TakesBytes (old new : DecoderState) (so_far : DecodedSoFar) (at : ℕ
 -- A chunk was passed on after the bytes that were pending at an offset. The bytes that are pending
 -- then end where the chunk ends.
 pub record PassesChunk (old new : DecoderState) (so_far : DecodedSoFar) (at : ℕ)
-    (before piece after : List ℕ) : Type 0 where
-  pub few : length after ≤ length before + length piece
-  pub on : (there : ℕ) → there + length after ≡ at + length before + length piece
-      → ContinuesAs old new at there (before ++ piece) after
-  pub settled : (there : ℕ) → there + length after ≡ at + length before + length piece
+    (before chunk after : List ℕ) : Type 0 where
+  pub few : length after ≤ length before + length chunk
+  pub on : (there : ℕ) → there + length after ≡ at + length before + length chunk
+      → ContinuesAs old new at there (before ++ chunk) after
+  pub settled : (there : ℕ) → there + length after ≡ at + length before + length chunk
       → IsAtRecordBoundary new so_far there after

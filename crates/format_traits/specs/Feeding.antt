@@ -1,7 +1,7 @@
 -- Feeding of a format object: the state that contracts see, and the meaning of each call.
 use Rattle.std.specs.Prelude.{◌≡◌, ℕ, ◌+◌, Bool, true, false, List, [], ◌++◌, length, Result, Ok, Err}
 use Rattle.design_model.specs.declared.command.Command.{Command}
-use Rattle.lists_and_numbers.specs.declared.memory.Memory.{Memory}
+use Rattle.design_model.specs.declared.memory.Memory.{Memory}
 use Rattle.format_traits.specs.declared.fault.ReadFault.{ReadFault}
 use Rattle.format_traits.specs.declared.fault.ReadFault.TheVariants as fault
 use Rattle.format_traits.specs.declared.loaded.Loaded.{Loaded}
@@ -25,12 +25,12 @@ pub record HasNothingFed (reads : List ℕ → Result Loaded ReadFault) (shown :
   pub decoded : (more : List ℕ) → f.decoded more ≡ shown more
 
 -- A chunk was fed: the new state is the old one with the chunk before the remaining bytes.
-pub record IsFed (old : FeedState) (piece : List ℕ) (new : FeedState) : Type 0 where
+pub record IsFed (old : FeedState) (chunk : List ℕ) (new : FeedState) : Type 0 where
   pub was : old.spoiled ≡ false
   pub sound : new.spoiled ≡ false
-  pub taken : new.taken ≡ old.taken + length piece
-  pub rest : (more : List ℕ) → new.rest more ≡ old.rest (piece ++ more)
-  pub decoded : (more : List ℕ) → new.decoded more ≡ old.decoded (piece ++ more)
+  pub taken : new.taken ≡ old.taken + length chunk
+  pub rest : (more : List ℕ) → new.rest more ≡ old.rest (chunk ++ more)
+  pub decoded : (more : List ℕ) → new.decoded more ≡ old.decoded (chunk ++ more)
 
 -- Memory ran out while `size` bytes were fed: they count as fed, and the object is spoiled.
 pub record IsSpoiled (old : FeedState) (size : ℕ) (new : FeedState) : Type 0 where
@@ -39,8 +39,8 @@ pub record IsSpoiled (old : FeedState) (size : ℕ) (new : FeedState) : Type 0 w
 
 -- Meaning of each answer of `feed`: the chunk was fed, or memory ran out.
 abbrev pub Feeds : {T : Type 0} → FeedState → List ℕ → Result T Memory → FeedState → Type 0
-Feeds old piece (Ok _) new = IsFed old piece new
-Feeds old piece (Err _) new = IsSpoiled old (length piece) new
+Feeds old chunk (Ok _) new = IsFed old chunk new
+Feeds old chunk (Err _) new = IsSpoiled old (length chunk) new
 
 -- The file was finished: the answer is the result of the bytes that were fed, and nothing is fed of
 -- the next file.

@@ -5,7 +5,7 @@ use Rattle.std.specs.List.{list_all}
 use Rattle.design_model.specs.Acts.{acts_of, acts_without_numbers}
 use Rattle.design_model.specs.Designs.{DesignValue, KeepsLimits}
 use Rattle.design_model.specs.Points.{is_point_within}
-use Rattle.lists_and_numbers.specs.OutOfMemory.{IsSpecified}
+use Rattle.design_model.specs.OutOfMemory.{IsSpecified}
 use Rattle.format_traits.specs.declared.fault.ReadFault.{ReadFault}
 use Rattle.format_traits.specs.declared.fault.WriteFault.{WriteFault}
 use Rattle.format_traits.specs.declared.loaded.Loaded.{Loaded}

@@ -8,7 +8,7 @@ use Rattle.design_model.specs.declared.design.TheConstants.{MAX_COMMANDS}
 use Rattle.design_model.specs.declared.point.Point.{Point}
 use Rattle.design_model.specs.declared.point.TheConstants.{NEEDLE_LIMIT}
 use Rattle.design_model.specs.Points.{is_point_within, origin, move_between, move_size}
-use Rattle.lists_and_numbers.specs.OutOfMemory.{UnlessOutOfMemory}
+use Rattle.design_model.specs.OutOfMemory.{UnlessOutOfMemory}
 use Rattle.format_traits.specs.declared.fault.WriteFault.{WriteFault}
 use Rattle.format_traits.specs.declared.fault.WriteFault.TheVariants as fault
 use Rattle.format_traits.specs.declared.encoder_state.WriteLimits.{WriteLimits}

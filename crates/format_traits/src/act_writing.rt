@@ -7,8 +7,7 @@ ghost use Rattle.std.specs.Prelude.{◌≡◌, ◌≤◌, length, IsTrue};
 
 use crate::encoder_state::{EncoderState, WriteLimits};
 use crate::fault::WriteFault;
-use design_model::{Act, ActScanner, Command, MAX_COMMANDS, NumberedAct};
-use lists_and_numbers::{Bytes, Memory};
+use design_model::{Act, ActScanner, Bytes, Command, MAX_COMMANDS, Memory, NumberedAct};
 
 /// A writer of acts, which appends them to the bytes of a file.
 pub trait ActWriter {

@@ -1,15 +1,14 @@
+ghost use Rattle.design_model.specs.declared.limits.TheConstants.{MAX_FILE};
 ghost use Rattle.format_traits.specs.Feeding.{Feeds, Finishes, HasNothingFed};
 ghost use Rattle.format_traits.specs.Laws.{IsFileEnding, EncodesTo, RoundTrips, MovesWithin};
 ghost use Rattle.format_traits.specs.PlainDesigns.{IsPlain};
 ghost use Rattle.format_traits.specs.declared.format_object.TheConstants.{MIN_LIMIT, MAX_LIMIT};
-ghost use Rattle.lists_and_numbers.specs.declared.limits.TheConstants.{MAX_FILE};
 ghost use Rattle.std.specs.Prelude.{◌≡◌, ◌+◌, ◌≤◌, length, IfOk, IsOk};
 
 use crate::fault::{ReadFault, WriteFault};
 use crate::format_object::Format;
 use crate::loaded::Loaded;
-use design_model::Design;
-use lists_and_numbers::{Bytes, Memory};
+use design_model::{Bytes, Design, Memory};
 use std::alloc::Global;
 
 /// Returns the ending of a boxed format's file names.
@@ -54,12 +53,12 @@ pub fn begin_by(format: &mut Box<dyn Format>)
 }
 
 /// Feeds the next chunk of a file to a boxed format.
-pub fn feed_by(format: &mut Box<dyn Format>, piece: &[u8]) -> Result<(), Memory>
-    requires { (feed_state format.old).taken + length piece.now ≤ MAX_FILE }
+pub fn feed_by(format: &mut Box<dyn Format>, chunk: &[u8]) -> Result<(), Memory>
+    requires { (feed_state format.old).taken + length chunk.now ≤ MAX_FILE }
     ensures same { meaning format.new ≡ meaning format.old }
-    ensures feeds { Feeds (feed_state format.old) piece.now result (feed_state format.new) }
+    ensures feeds { Feeds (feed_state format.old) chunk.now result (feed_state format.new) }
 {
-    format.feed(piece)
+    format.feed(chunk)
 }
 
 /// Returns the result of reading the file that was fed to a boxed format.

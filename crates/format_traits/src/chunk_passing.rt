@@ -1,13 +1,13 @@
 ghost use Rattle.format_traits.specs.DecoderStates.{PassesChunk, TakesBytes};
 ghost use Rattle.format_traits.specs.Laws.{DecodesTo};
 ghost use Rattle.format_traits.specs.declared.decoder.TheConstants.{MAX_PENDING};
-ghost use Rattle.std.specs.Prelude.{◌≡◌, ◌+◌, ◌<◌, ◌≤◌, ◌^◌, ◌++◌, length, drop, IfOk, IsOk, OnOk};
+ghost use Rattle.std.specs.Prelude.{◌≡◌, ◌+◌, ◌<◌, ◌≤◌, ◌^◌, ◌++◌, length, drop, IfOk, OnOk};
 
 use crate::decoder::{Decoder, MAX_PENDING};
 use crate::fault::ReadFault;
 use crate::loaded::Loaded;
 use arrayvec::ArrayVec;
-use lists_and_numbers::Memory;
+use design_model::Memory;
 
 /// Passes the pending bytes at an offset and a chunk after them on to a decoder. The bytes that the decoder
 /// leaves are pending then.
@@ -15,14 +15,14 @@ pub(crate) fn pass_on<D: Decoder>(
     decoder: &mut D,
     pending: &mut ArrayVec<u8, MAX_PENDING>,
     start: u64,
-    piece: &[u8],
+    chunk: &[u8],
 ) -> Result<(), Memory>
-    requires { start + length pending.old.items + length piece.now < 2 ^ 64 }
+    requires { start + length pending.old.items + length chunk.now < 2 ^ 64 }
     ensures { OnOk result (PassesChunk (D.decoder_state decoder.old) (D.decoder_state decoder.new)
-        (D.so_far decoder.new) start pending.old.items piece.now pending.new.items) }
+        (D.so_far decoder.new) start pending.old.items chunk.now pending.new.items) }
 {
     let mut at = start;
-    let mut rest = piece;
+    let mut rest = chunk;
     loop {
         let size = take_pending(decoder, pending, at)?;
         at += size as u64;
@@ -79,14 +79,14 @@ fn drop_first(bytes: &mut ArrayVec<u8, MAX_PENDING>, size: usize)
 }
 
 /// Appends as many bytes of a chunk as there is room for, and returns the rest of the chunk.
-fn fill<'a>(bytes: &mut ArrayVec<u8, MAX_PENDING>, piece: &'a [u8]) -> &'a [u8]
+fn fill<'a>(bytes: &mut ArrayVec<u8, MAX_PENDING>, chunk: &'a [u8]) -> &'a [u8]
     requires room { length bytes.old.items < MAX_PENDING }
-    requires some { 0 < length piece.now }
-    ensures all { bytes.new.items ++ result.now ≡ bytes.old.items ++ piece.now }
-    ensures less { length result.now < length piece.now }
+    requires some { 0 < length chunk.now }
+    ensures all { bytes.new.items ++ result.now ≡ bytes.old.items ++ chunk.now }
+    ensures less { length result.now < length chunk.now }
 {
     let room = MAX_PENDING - bytes.len();
-    let (first, behind) = piece.split_at(room.min(piece.len()));
+    let (first, behind) = chunk.split_at(room.min(chunk.len()));
     bytes.try_extend_from_slice(first).unwrap();
     behind
 }

@@ -1,7 +1,6 @@
 use crate::fault::ReadFault;
 use crate::loaded::Loaded;
-use design_model::Command;
-use lists_and_numbers::Memory;
+use design_model::{Command, Memory};
 
 /// A decoder leaves fewer pending bytes than this.
 pub const MAX_PENDING: usize = 528;

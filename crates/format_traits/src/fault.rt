@@ -2,7 +2,7 @@ ghost use Rattle.format_traits.specs.declared.fault.ReadFault.TheVariants as rea
 ghost use Rattle.format_traits.specs.declared.fault.WriteFault.TheVariants as write;
 ghost use Rattle.std.specs.Prelude.{◌≡◌};
 
-use lists_and_numbers::Memory;
+use design_model::Memory;
 use thiserror::Error;
 
 /// Why a file was not read. `at` is the offset of a byte in the file, counted from 0.

@@ -4,8 +4,7 @@ use crate::fault::{ReadFault, WriteFault};
 use crate::feed::{Fed, Feed};
 use crate::format_object::Format;
 use crate::loaded::Loaded;
-use design_model::{Command, Design};
-use lists_and_numbers::{Bytes, Memory};
+use design_model::{Bytes, Command, Design, Memory};
 use std::alloc::Global;
 
 /// The parts of a format: its ending, its limit, the decoder of its files, and its writer.
@@ -96,8 +95,8 @@ impl<C: Codec> Format for FedFormat<C> {
         self.feed.begin(0);
     }
 
-    fn feed(&mut self, piece: &[u8]) -> Result<(), Memory> {
-        self.feed.feed(piece)
+    fn feed(&mut self, chunk: &[u8]) -> Result<(), Memory> {
+        self.feed.feed(chunk)
     }
 
     fn finish(&mut self) -> Result<Loaded, ReadFault> {

@@ -1,4 +1,4 @@
-ghost use Rattle.lists_and_numbers.specs.declared.limits.TheConstants.{MAX_FILE};
+ghost use Rattle.design_model.specs.declared.limits.TheConstants.{MAX_FILE};
 ghost use Rattle.std.specs.Prelude.{◌≤◌, length};
 
 use crate::chunk_passing::pass_on;
@@ -6,8 +6,7 @@ use crate::decoder::{Decoder, MAX_PENDING};
 use crate::fault::ReadFault;
 use crate::loaded::Loaded;
 use arrayvec::ArrayVec;
-use design_model::Command;
-use lists_and_numbers::Memory;
+use design_model::{Command, Memory};
 
 /// A decoder that is fed a file in chunks, and the pending bytes, which the decoder has not taken yet.
 #[derive(Drop)]
@@ -41,7 +40,7 @@ impl<D: Decoder + Drop> Fed for Feed<D> {
 
 impl<D: Decoder + Drop> Feed<D> {
     ghost use Rattle.std.specs.Prelude.{◌≡◌, ◌+◌, ◌≤◌, [], false, length};
-    ghost use Rattle.lists_and_numbers.specs.declared.limits.TheConstants.{MAX_FILE};
+    ghost use Rattle.design_model.specs.declared.limits.TheConstants.{MAX_FILE};
     ghost use Rattle.format_traits.specs.Feeding.{Feeds, Finishes, HasNothingFed};
 
     /// Returns a feed of a file whose first byte has the offset 0. Allocates nothing.
@@ -74,21 +73,21 @@ impl<D: Decoder + Drop> Feed<D> {
 
     /// Takes the next chunk of the file. Out of memory, it is spoiled: it counts the bytes, and reports out
     /// of memory until it begins again.
-    pub fn feed(&mut self, piece: &[u8]) -> Result<(), Memory>
-        requires { self.old.taken + length piece.now ≤ MAX_FILE }
+    pub fn feed(&mut self, chunk: &[u8]) -> Result<(), Memory>
+        requires { self.old.taken + length chunk.now ≤ MAX_FILE }
         ensures { Feeds
-            (⟦<Feed<D> as Fed>⟧.feed_state self.old) piece.now result
+            (⟦<Feed<D> as Fed>⟧.feed_state self.old) chunk.now result
             (⟦<Feed<D> as Fed>⟧.feed_state self.new) }
     {
         let at = self.start as u64 + (self.taken - self.pending.len() as u64);
-        self.taken += piece.len() as u64;
+        self.taken += chunk.len() as u64;
         if self.spoiled {
             return Err(Memory);
         }
-        if piece.is_empty() {
+        if chunk.is_empty() {
             return Ok(());
         }
-        match pass_on(&mut self.decoder, &mut self.pending, at, piece) {
+        match pass_on(&mut self.decoder, &mut self.pending, at, chunk) {
             Ok(()) => Ok(()),
             Err(Memory) => {
                 self.pending.clear();

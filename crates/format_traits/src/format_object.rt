@@ -2,8 +2,7 @@ ghost use Rattle.std.specs.Prelude.{◌≡◌, ◌+◌, ◌≤◌, [], false, le
 
 use crate::fault::{ReadFault, WriteFault};
 use crate::loaded::Loaded;
-use design_model::{Command, Design};
-use lists_and_numbers::{Bytes, Memory};
+use design_model::{Bytes, Command, Design, Memory};
 use std::alloc::Global;
 
 /// The least limit of a format, in tenths of a millimetre.
@@ -21,7 +20,7 @@ pub const MAX_LIMIT: u32 = 2047;
 /// An object is spoiled once `feed` or `finish` reports out of memory, until it begins again. A new object is
 /// not spoiled.
 pub trait Format: Drop {
-    ghost use Rattle.lists_and_numbers.specs.declared.limits.TheConstants.{MAX_FILE};
+    ghost use Rattle.design_model.specs.declared.limits.TheConstants.{MAX_FILE};
     ghost use Rattle.format_traits.specs.declared.format_object.TheConstants.{MIN_LIMIT, MAX_LIMIT};
     ghost use Rattle.format_traits.specs.Feeding.{FeedState, Feeds, Finishes, HasNothingFed};
     ghost use Rattle.format_traits.specs.Meanings.{Meaning};
@@ -71,10 +70,10 @@ pub trait Format: Drop {
             (feed_state self.new) };
 
     /// Takes the next chunk of a file. A refusal of its bytes is reported by `finish`, not by this call.
-    fn feed(&mut self, piece: &[u8]) -> Result<(), Memory>
-        requires { (feed_state self.old).taken + length piece.now ≤ MAX_FILE }
+    fn feed(&mut self, chunk: &[u8]) -> Result<(), Memory>
+        requires { (feed_state self.old).taken + length chunk.now ≤ MAX_FILE }
         ensures same { meaning self.new ≡ meaning self.old }
-        ensures feeds { Feeds (feed_state self.old) piece.now result (feed_state self.new) };
+        ensures feeds { Feeds (feed_state self.old) chunk.now result (feed_state self.new) };
 
     /// Returns the result of the file that was fed. The next file may be fed then.
     fn finish(&mut self) -> Result<Loaded, ReadFault>

@@ -1,6 +1,6 @@
 ghost use Rattle.std.specs.Prelude.{◌≡◌, ◌≤◌, ◌++◌, length, drop};
 
-use lists_and_numbers::Bytes;
+use design_model::Bytes;
 
 /// Returns the bytes with `front` written over their beginning. Allocates nothing.
 pub fn with_front(bytes: Bytes, front: &[u8]) -> Bytes

@@ -4,8 +4,7 @@ ghost use Rattle.format_traits.specs.LabelFields.{label_field, label_in, printab
 ghost use Rattle.std.specs.Prelude.{◌≡◌, ◌++◌, ◌≤◌, length, replicate, OnOk};
 
 use arrayvec::ArrayVec;
-use design_model::{Design, MAX_LABEL};
-use lists_and_numbers::{Bytes, Memory};
+use design_model::{Bytes, Design, MAX_LABEL, Memory};
 
 /// Appends `count` spaces.
 pub fn put_spaces(out: &mut Bytes, count: usize) -> Result<(), Memory>

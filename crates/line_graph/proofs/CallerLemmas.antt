@@ -3,7 +3,7 @@ use mathlib.Core.List.{reverse_aux}
 use Rattle.std.proofs.Common.{All, AllPairs, List, None, Option, Some, [], ap, arith, false, get_or, length, map, nat_lt, refl, replicate, slice_get, subst, suc, sum_by, sym, true, zero, ℕ, ◌&&◌, ◌*◌, ◌++◌, ◌+◌, ◌-◌, ◌<◌, ◌==◌, ◌∷◌, ◌≡◌, ◌≤◌}
 use Rattle.line_graph.proofs.Names.{and_parts, nat_tests, length-append, length-map, All-cons, All-head, All-tail, AllPairs-from_increasing, sum_by-cons, IsStrictlyIncreasing, option_or, Stitch, Stop, Trim, Point, IsNeedlePoint, PieceValue, degree, degrees_from, BeginsWith, all_greater, are_same_junction, edge_of, is_strictly_increasing, walk_end_from, first_line, lines_of_pieces, Run, commands_after, stops_after, IsValidPiece, ends_below, is_below, Edge, Pass, Piece, eq_self, ltb-true, length-replicate, closing_edge, is_odd, after_pass, differs_back}
 use Rattle.line_graph.specs.ClosedDegrees.{closing_ends}
-use Rattle.drawing_model.specs.declared.limits.TheConstants.{MAX_LINES}
+use Rattle.line_graph.specs.declared.limits.TheConstants.{MAX_LINES}
 
 -- needle points are in range the other way round
 pub range_back : (xs r : List Point) → All IsNeedlePoint xs → All IsNeedlePoint r → All IsNeedlePoint (reverse_aux xs r)

@@ -3,7 +3,7 @@ use Rattle.std.proofs.Common.{◌≡◌, ◌<◌, ◌≤◌, ◌⊎◌, ℕ, ◌
 use Rattle.std.proofs.lemmas.List.Folds.{list_any-append}
 use Rattle.line_graph.proofs.Names.{and_parts, eqb-false, or_parts, nat_tests, get_or-set_other, get_or-set_same, length-set, All-cons, All-head, All-nil, All-push, All-tail, all_pairs_push, slice_get-get_or, list_any, position_or_len, Point, is_same_point, Spot, LineValue, DrawingValue, optional_line_block, first_point, last_point, optional_line_points, endpoints, IsLineEnd, ArePieceLabels, AreConnected, IsPathOfLines, are_connected_spots, has_end_at_spot, same_is, same_number, get_or_default, passes_at_first, AreInDifferentPieces, is_junction, spot_added, same_test}
 use Rattle.line_graph.specs.declared.chosen_spots.ChosenSpots.{ChosenSpots}
-use Rattle.drawing_model.specs.declared.draw_kind.DrawKind.TheVariants as kind
+use Rattle.line_graph.specs.declared.draw_kind.DrawKind.TheVariants as kind
 use Rattle.line_graph.specs.EndsMakerInvariants.{AreChosen, label_at}
 use Rattle.line_graph.proofs.ConnectedSpotLemmas.{spots_are_joined}
 use Rattle.line_graph.proofs.LabelLemmas.{joined_back, joined_on}

@@ -1,3 +1,19 @@
+pub mod DrawingNames
+pub mod DrawingLemmas
+mod Places
+mod NeedleLemmas
+mod MakerLemmas
+mod GrowingFacts
+mod DrawingLimitFacts
+mod JoinedFacts
+mod SectionCosts
+mod KeptSections
+mod GrowingLimitLemmas
+mod GrowingLimitFacts
+mod ValidDrawingFacts
+mod LimitOrderFacts
+mod NeedleFacts
+mod WalkEndFacts
 pub mod Names
 pub mod CallerLemmas
 mod WalkFacts

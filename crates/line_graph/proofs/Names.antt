@@ -20,13 +20,13 @@ pub use Rattle.design_model.specs.Points.{is_point_within, is_same_point, move_b
 pub use Rattle.design_model.specs.declared.act.Act.{Act}
 pub use Rattle.design_model.specs.declared.command.Command.TheVariants.{Stitch, Stop, Trim}
 pub use Rattle.design_model.specs.declared.point.Point.{Point}
-pub use Rattle.drawing_model.proofs.CallerLemmas.{close_on, cost_is, ends_are, line_there, same_found}
-pub use Rattle.drawing_model.specs.Drawings.{DrawingValue, IsLine, KeepsDrawingLimits, block_of, endpoints, first_point, last_point}
-pub use Rattle.drawing_model.specs.Drawings.{optional_line_block, optional_line_points, points_of}
-pub use Rattle.drawing_model.specs.LineNeedles.{AreClose, AreNeedlesOf, NeedlesLeadAlong, cost_of_line, needles_of_line}
-pub use Rattle.drawing_model.specs.Needles.{steps_of_line}
-pub use Rattle.drawing_model.specs.WalkEnds.{AreInDifferentPieces, are_connected_spots, end_spots, has_end_at_spot, is_junction}
-pub use Rattle.drawing_model.specs.WalkEnds.{merged_representative, representative, spot_added}
+pub use Rattle.line_graph.proofs.DrawingLemmas.{close_on, cost_is, ends_are, line_there, same_found}
+pub use Rattle.line_graph.specs.Drawings.{DrawingValue, IsLine, KeepsDrawingLimits, block_of, endpoints, first_point, last_point}
+pub use Rattle.line_graph.specs.Drawings.{optional_line_block, optional_line_points, points_of}
+pub use Rattle.line_graph.specs.LineNeedles.{AreClose, AreNeedlesOf, NeedlesLeadAlong, cost_of_line, needles_of_line}
+pub use Rattle.line_graph.specs.Needles.{steps_of_line}
+pub use Rattle.line_graph.specs.WalkEnds.{AreInDifferentPieces, are_connected_spots, end_spots, has_end_at_spot, is_junction}
+pub use Rattle.line_graph.specs.WalkEnds.{merged_representative, representative, spot_added}
 pub use Rattle.line_graph.specs.ConnectedSpots.{SpotsAreConnected}
 pub use Rattle.line_graph.specs.DrawnWalks.{FittingWalksAreThreads, GivenPointsAreJunctions, IsThreadOver, KeepsGivenEnds, Leads}
 pub use Rattle.line_graph.specs.DrawnWalks.{PiecesAreValid, given_point}
@@ -58,7 +58,7 @@ pub use Rattle.line_sections.proofs.CallerLemmas.{same_spot, spot_found}
 pub use Rattle.line_sections.specs.Lines.{LineValue}
 pub use Rattle.line_sections.specs.Spots.{is_same_spot}
 pub use Rattle.line_sections.specs.declared.spot.Spot.{Spot}
-pub use Rattle.lists_and_numbers.proofs.CallerLemmas.{all_concat, concat_has, differs_back, eq_self, filter_has, filter_skips, filter_takes}
-pub use Rattle.lists_and_numbers.proofs.CallerLemmas.{less_test, map_has, number_found, pairs_tail, range_rises, same_number, same_test}
-pub use Rattle.lists_and_numbers.proofs.CallerLemmas.{some_same, sum_over, unequal}
+pub use Rattle.design_model.proofs.ListLemmas.{all_concat, concat_has, differs_back, eq_self, filter_has, filter_skips, filter_takes}
+pub use Rattle.design_model.proofs.ListLemmas.{less_test, map_has, number_found, pairs_tail, range_rises, same_number, same_test}
+pub use Rattle.design_model.proofs.ListLemmas.{some_same, sum_over, unequal}
 pub use Rattle.step_splitter.specs.Chains.{AreCloseAfter, IsNeedlePoint, SplitPointsLead, last_point_or}

@@ -3,9 +3,9 @@ use Rattle.std.proofs.Common.{◌≡◌, ◌≢◌, ℕ, ◌+◌, ◌<◌, true,
 use Rattle.line_graph.proofs.Names.{AllZip, Act, acts_without_numbers, Pass, DrawingValue, KeepsDrawingLimits, ArePieces, piece_graph, is_fitting_walk, piece_cost, walk_cost, AreNear, HasNeedle, Run, runs_of, stops_after, FittingWalksAreSewable, GoesAlong, IsSewable, PiecesKeepLimits, PiecesAreUnique, IsValidPiece, needles_of_walk, acts_of, AreWritable, RunsAreSewn, Sews, design_of_runs, sewn_acts}
 use Rattle.design_model.specs.declared.act.Act.TheVariants as act
 use Rattle.design_model.specs.declared.act.NumberedAct.{NumberedAct}
-use Rattle.drawing_model.specs.declared.draw_kind.DrawKind.{DrawKind}
-use Rattle.drawing_model.specs.declared.draw_kind.DrawKind.TheVariants as kind
-use Rattle.drawing_model.specs.GrowingDrawings.{ChangesAsSpecified}
+use Rattle.line_graph.specs.declared.draw_kind.DrawKind.{DrawKind}
+use Rattle.line_graph.specs.declared.draw_kind.DrawKind.TheVariants as kind
+use Rattle.line_graph.specs.GrowingDrawings.{ChangesAsSpecified}
 use Rattle.line_graph.proofs.WalkFacts.{at, back, drawn, forth}
 
 -- a stroke of one step, sewn forth and back

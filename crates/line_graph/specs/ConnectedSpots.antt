@@ -1,10 +1,10 @@
 -- Spots that lines connect are those at ends of connected lines.
 use Rattle.std.specs.Prelude.{◌≡◌, ℕ, true}
 use Rattle.line_sections.specs.declared.spot.Spot.{Spot}
-use Rattle.drawing_model.specs.Drawings.{DrawingValue}
+use Rattle.line_graph.specs.Drawings.{DrawingValue}
 use Rattle.line_graph.specs.FirstLines.{IsLineEnd}
 use Rattle.line_graph.specs.Pieces.{AreConnected}
-use Rattle.drawing_model.specs.WalkEnds.{are_connected_spots}
+use Rattle.line_graph.specs.WalkEnds.{are_connected_spots}
 
 -- Two spots at ends of lines i and j are connected by lines exactly where the two lines are
 -- connected.

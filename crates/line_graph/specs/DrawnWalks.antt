@@ -6,7 +6,7 @@ use Rattle.design_model.specs.declared.point.Point.{Point}
 use Rattle.design_model.specs.Points.{is_same_point}
 use Rattle.line_sections.specs.declared.spot.Spot.{Spot}
 use Rattle.line_graph.specs.declared.pass.Pass.{Pass}
-use Rattle.drawing_model.specs.Drawings.{DrawingValue, KeepsDrawingLimits, block_of, first_point, last_point}
+use Rattle.line_graph.specs.Drawings.{DrawingValue, KeepsDrawingLimits, block_of, first_point, last_point}
 use Rattle.line_graph.specs.PieceGraphs.{first_junction_among, junction_number, junctions_of, piece_graph}
 use Rattle.line_graph.specs.Pieces.{ArePieces, first_line}
 use Rattle.line_graph.specs.PieceWalks.{is_fitting_walk}

@@ -5,10 +5,10 @@ use Rattle.std.specs.List.{list_any, position_or_len}
 use Rattle.line_sections.specs.declared.spot.Spot.{Spot}
 use Rattle.line_sections.specs.Lines.{LineValue}
 use Rattle.line_graph.specs.declared.chosen_spots.ChosenSpots.{ChosenSpots}
-use Rattle.drawing_model.specs.Drawings.{DrawingValue, KeepsDrawingLimits}
+use Rattle.line_graph.specs.Drawings.{DrawingValue, KeepsDrawingLimits}
 use Rattle.line_graph.specs.PieceLabels.{ArePieceLabels}
-use Rattle.drawing_model.specs.JoinedDrawings.{is_joined}
-use Rattle.drawing_model.specs.WalkEnds.{AreInDifferentPieces, has_end_at_spot}
+use Rattle.line_graph.specs.JoinedDrawings.{is_joined}
+use Rattle.line_graph.specs.WalkEnds.{AreInDifferentPieces, has_end_at_spot}
 
 -- The label of the first line that has an end at a spot. Lines have equal labels exactly where they
 -- are in one piece.

@@ -3,7 +3,7 @@
 use Rattle.std.specs.Prelude.{◌≡◌, ℕ, ◌<◌, ◌⊎◌, List, [], ◌∷◌, ◌++◌, Option, Some, length, get_or, All, Contains}
 use Rattle.line_sections.specs.declared.spot.Spot.{Spot}
 use Rattle.line_graph.specs.declared.line_labels.LineLink.{LineLink}
-use Rattle.drawing_model.specs.Drawings.{DrawingValue, block_of, first_point, last_point, points_of}
+use Rattle.line_graph.specs.Drawings.{DrawingValue, block_of, first_point, last_point, points_of}
 use Rattle.line_graph.specs.LineLabels.{LabelsAgree, LinkedAreConnected, AreLinksBelow}
 use Rattle.line_graph.specs.Pieces.{LinesTouch}
 

@@ -2,7 +2,7 @@
 -- that is connected to it, at last the first line of its piece. Used only inside this crate.
 use Rattle.std.specs.Prelude.{◌≡◌, ℕ, ◌+◌, ◌<◌, ◌≤◌, Bool, true, false, List, length, get_or, set, All, sum_by}
 use Rattle.line_graph.specs.declared.line_labels.LineLink.{LineLink}
-use Rattle.drawing_model.specs.Drawings.{DrawingValue}
+use Rattle.line_graph.specs.Drawings.{DrawingValue}
 use Rattle.line_graph.specs.PieceGraphs.{one_if}
 use Rattle.line_graph.specs.Pieces.{AreConnected}
 

@@ -7,9 +7,9 @@ use Rattle.design_model.specs.declared.point.Point.{Point}
 use Rattle.design_model.specs.Points.{is_same_point}
 use Rattle.line_sections.specs.declared.spot.Spot.{Spot}
 use Rattle.line_graph.specs.declared.edge.Edge.{Edge}
-use Rattle.drawing_model.specs.Drawings.{DrawingValue, block_of, first_point, last_point, points_of, endpoints}
+use Rattle.line_graph.specs.Drawings.{DrawingValue, block_of, first_point, last_point, points_of, endpoints}
 use Rattle.line_graph.specs.Pieces.{first_line}
-use Rattle.drawing_model.specs.LineNeedles.{cost_of_line}
+use Rattle.line_graph.specs.LineNeedles.{cost_of_line}
 
 -- The graph of a piece: its block, its lines, the points of its junctions, an edge for each line,
 -- and the degree of each junction. The start and the end are the junctions where a walk must start

@@ -5,7 +5,7 @@ use Rattle.std.specs.List.{range_with_len}
 use Rattle.std.specs.List.Sorted.{IsStrictlyIncreasing}
 use Rattle.design_model.specs.declared.point.Point.{Point}
 use Rattle.line_graph.specs.declared.edge.Edge.{Edge}
-use Rattle.drawing_model.specs.Drawings.{DrawingValue, points_of, endpoints}
+use Rattle.line_graph.specs.Drawings.{DrawingValue, points_of, endpoints}
 use Rattle.line_graph.specs.LineLabels.{AreAtMostIndex, AreConnectedToLabels}
 use Rattle.line_graph.specs.PieceGraphs.{edge_between, with_points}
 use Rattle.line_graph.specs.Pieces.{AreConnected, LinesTouch, first_line}

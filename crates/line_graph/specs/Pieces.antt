@@ -6,7 +6,7 @@ use Rattle.std.specs.List.Sorted.{IsStrictlyIncreasing}
 use Rattle.design_model.specs.declared.point.Point.{Point}
 use Rattle.design_model.specs.Points.{is_same_point}
 use Rattle.line_sections.specs.Lines.{LineValue}
-use Rattle.drawing_model.specs.Drawings.{DrawingValue, endpoints}
+use Rattle.line_graph.specs.Drawings.{DrawingValue, endpoints}
 
 -- Two lists of points have a point in common.
 abbrev pub shares_point : List Point → List Point → Bool

@@ -10,10 +10,10 @@ use Rattle.design_model.specs.declared.point.Point.{Point}
 use Rattle.design_model.specs.Acts.{acts_of, acts_without_numbers}
 use Rattle.design_model.specs.Designs.{DesignValue}
 use Rattle.step_splitter.specs.Chains.{IsNeedlePoint}
-use Rattle.drawing_model.specs.declared.limits.TheConstants.{MAX_BLOCKS, MAX_COST, MAX_LINES}
+use Rattle.line_graph.specs.declared.limits.TheConstants.{MAX_BLOCKS, MAX_COST, MAX_LINES}
 use Rattle.line_graph.specs.declared.pass.Pass.{Pass}
-use Rattle.drawing_model.specs.Drawings.{DrawingValue, block_of}
-use Rattle.drawing_model.specs.LineNeedles.{AreClose}
+use Rattle.line_graph.specs.Drawings.{DrawingValue, block_of}
+use Rattle.line_graph.specs.LineNeedles.{AreClose}
 use Rattle.line_graph.specs.Walks.{needles_of_walk}
 
 -- A run: the block in which it is sewn, and its needle points in order.

@@ -1,6 +1,6 @@
 -- A drawing has only one list of pieces.
 use Rattle.std.specs.Prelude.{◌≡◌, ℕ, List}
-use Rattle.drawing_model.specs.Drawings.{DrawingValue}
+use Rattle.line_graph.specs.Drawings.{DrawingValue}
 use Rattle.line_graph.specs.Pieces.{ArePieces}
 
 -- Two lists of pieces of one drawing are equal.

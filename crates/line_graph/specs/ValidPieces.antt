@@ -2,7 +2,7 @@
 use Rattle.std.specs.Prelude.{◌≡◌, ℕ, ◌+◌, ◌<◌, ◌≤◌, ◌&&◌, Bool, true, false, List, [], ◌∷◌, Option, Some, None, length, nat_le, nat_lt, slice_get, AllPairs}
 use Rattle.design_model.specs.Points.{is_same_point}
 use Rattle.line_graph.specs.declared.edge.Edge.{Edge}
-use Rattle.drawing_model.specs.declared.limits.TheConstants.{MAX_COST, MAX_LINES}
+use Rattle.line_graph.specs.declared.limits.TheConstants.{MAX_COST, MAX_LINES}
 use Rattle.line_graph.specs.PieceGraphs.{PieceValue, degree, degrees_from}
 use Rattle.line_graph.specs.PieceWalks.{piece_cost, is_strictly_increasing}
 

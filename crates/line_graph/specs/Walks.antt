@@ -3,8 +3,8 @@ use Rattle.std.specs.Prelude.{if◌then◌else◌, List, [], ◌∷◌, ◌++◌
 use Rattle.std.specs.List.{flat_map}
 use Rattle.design_model.specs.declared.point.Point.{Point}
 use Rattle.line_graph.specs.declared.pass.Pass.{Pass}
-use Rattle.drawing_model.specs.Drawings.{DrawingValue}
-use Rattle.drawing_model.specs.LineNeedles.{needles_of_line}
+use Rattle.line_graph.specs.Drawings.{DrawingValue}
+use Rattle.line_graph.specs.LineNeedles.{needles_of_line}
 
 -- The needle points of a pass: those of its line, in reverse order where the pass goes backwards.
 abbrev pub needles_of_pass : DrawingValue → Pass → List Point

@@ -1,16 +1,16 @@
 ghost use Rattle.design_model.specs.Points.{is_same_point};
-ghost use Rattle.drawing_model.specs.Drawings.{endpoints};
-ghost use Rattle.drawing_model.specs.GrowingDrawings.{ChangesAsSpecified};
-ghost use Rattle.drawing_model.specs.WalkEnds.{has_end_at_spot, spot_added};
+ghost use Rattle.line_graph.specs.Drawings.{endpoints};
 ghost use Rattle.line_graph.specs.EndsMakerInvariants.{AreChosen};
+ghost use Rattle.line_graph.specs.GrowingDrawings.{ChangesAsSpecified};
 ghost use Rattle.line_graph.specs.PieceLabels.{ArePieceLabels};
+ghost use Rattle.line_graph.specs.WalkEnds.{has_end_at_spot, spot_added};
 ghost use Rattle.std.specs.List.{list_any, position_or_len};
 ghost use Rattle.std.specs.Prelude.{◌≡◌, ◌≤◌, ◌∷◌, [], IfOk, length};
 
-use design_model::Point;
-use drawing_model::{DrawKind, Drawing};
+use crate::draw_kind::DrawKind;
+use crate::drawing::Drawing;
+use design_model::{Memory, Point};
 use line_sections::{Line, Spot};
-use lists_and_numbers::Memory;
 use std::alloc::Global;
 
 /// Chosen junctions, at most one in each piece. `taken` records for the label of each line whether its

@@ -1,17 +1,17 @@
-ghost use Rattle.drawing_model.specs.declared.limits.TheConstants.{MAX_BLOCKS};
 ghost use Rattle.line_graph.specs.NextLines.{AreNextFrom};
 ghost use Rattle.line_graph.specs.PieceGraphs.{piece_graph};
 ghost use Rattle.line_graph.specs.PieceLabels.{ArePieceLabels, lines_labelled};
 ghost use Rattle.line_graph.specs.PiecesOfDrawings.{ArePiecesOf, graph_of};
+ghost use Rattle.line_graph.specs.declared.limits.TheConstants.{MAX_BLOCKS};
 ghost use Rattle.std.specs.Prelude.{◌≡◌, ◌<◌, All, IfOk, get_or, length};
 
+use crate::drawing::Drawing;
 use crate::first_lines::links;
 use crate::line_labels::labels;
 use crate::next_lines::{lines_with, next_lines};
 use crate::piece::{Piece, Pieces};
 use crate::piece_lines::piece_of;
-use drawing_model::Drawing;
-use lists_and_numbers::Memory;
+use design_model::Memory;
 use std::alloc::Global;
 
 /// Returns all pieces of a drawing, in the order of their first lines.

@@ -1,11 +1,11 @@
-ghost use Rattle.drawing_model.specs.declared.limits.TheConstants.{MAX_LINES};
 ghost use Rattle.line_graph.specs.PieceGraphs.{degrees_from};
 ghost use Rattle.line_graph.specs.PieceLabels.{CountsEnd, CountsEnds};
 ghost use Rattle.line_graph.specs.ValidPieces.{ends_below};
+ghost use Rattle.line_graph.specs.declared.limits.TheConstants.{MAX_LINES};
 ghost use Rattle.std.specs.Prelude.{◌≡◌, ◌<◌, ◌≤◌, ◌+◌, true, ℕ, IfOk, length, get_or};
 
 use crate::edge::Edge;
-use lists_and_numbers::Memory;
+use design_model::Memory;
 use std::alloc::Global;
 
 /// Returns the degree of each junction: the number of line ends there.

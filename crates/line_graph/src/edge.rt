@@ -1,4 +1,4 @@
-use lists_and_numbers::Items;
+use design_model::Items;
 
 /// An edge: a line of a piece, between two of its junctions. `a` is the junction at the line's first point,
 /// `b` the one at its last. `cost` counts steps.

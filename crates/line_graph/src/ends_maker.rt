@@ -1,14 +1,15 @@
-ghost use Rattle.drawing_model.specs.GrowingDrawings.{ChangesAsSpecified};
-ghost use Rattle.drawing_model.specs.JoinedDrawings.{is_joined};
-ghost use Rattle.drawing_model.specs.WalkEnds.{HasNoEnds, end_added, start_added};
+ghost use Rattle.line_graph.specs.GrowingDrawings.{ChangesAsSpecified};
+ghost use Rattle.line_graph.specs.JoinedDrawings.{is_joined};
+ghost use Rattle.line_graph.specs.WalkEnds.{HasNoEnds, end_added, start_added};
 ghost use Rattle.std.specs.Prelude.{◌≡◌, true, IfOk};
 
 use crate::chosen_spots::ChosenSpots;
+use crate::draw_kind::DrawKind;
+use crate::drawing::Drawing;
 use crate::first_lines::links;
 use crate::line_labels::labels;
-use drawing_model::{DrawKind, Drawing};
+use design_model::Memory;
 use line_sections::Spot;
-use lists_and_numbers::Memory;
 use std::alloc::Global;
 use std::marker::Model;
 
@@ -23,7 +24,7 @@ pub struct EndsMaker {
 
 impl Model for EndsMaker {
     ghost use Rattle.line_graph.specs.EndsMakerInvariants.{IsEndsMakerState};
-    ghost use Rattle.drawing_model.specs.Drawings.{DrawingValue};
+    ghost use Rattle.line_graph.specs.Drawings.{DrawingValue};
 
     ghost Value = { DrawingValue };
 

@@ -3,10 +3,11 @@ ghost use Rattle.line_sections.specs.Spots.{is_same_spot};
 ghost use Rattle.std.specs.HashMap.{get};
 ghost use Rattle.std.specs.Prelude.{◌≡◌, ◌<◌, ◌+◌, IfOk, OnOk, length};
 
+use crate::drawing::Drawing;
+use crate::drawn_lines::line_ends;
 use crate::line_labels::LineLink;
-use drawing_model::{Drawing, line_ends};
+use design_model::Memory;
 use line_sections::Spot;
-use lists_and_numbers::Memory;
 use std::alloc::Global;
 use std::collections::HashMap;
 

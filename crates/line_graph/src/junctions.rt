@@ -1,15 +1,15 @@
 ghost use Rattle.design_model.specs.Points.{is_same_point};
-ghost use Rattle.drawing_model.specs.declared.limits.TheConstants.{MAX_LINES};
 ghost use Rattle.line_graph.specs.PieceGraphs.{edge_between, junctions_of, with_point};
 ghost use Rattle.line_graph.specs.PieceLabels.{AddsEdge};
+ghost use Rattle.line_graph.specs.declared.limits.TheConstants.{MAX_LINES};
 ghost use Rattle.std.specs.List.{position_or_len};
 ghost use Rattle.std.specs.Prelude.{◌≡◌, ◌<◌, ◌≤◌, ◌+◌, [], All, IfOk, OnOk, length, map};
 
+use crate::drawing::Drawing;
+use crate::drawn_lines::{line_cost, line_ends};
 use crate::edge::{Edge, Edges};
-use design_model::Point;
-use drawing_model::{Drawing, line_cost, line_ends};
+use design_model::{Memory, Point};
 use indexmap::IndexSet;
-use lists_and_numbers::Memory;
 use std::alloc::Global;
 
 /// Returns the edges of lines. Adds the ends of these lines to the junctions, in the order of the lines.

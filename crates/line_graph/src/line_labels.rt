@@ -1,7 +1,7 @@
 ghost use Rattle.line_graph.specs.LineLabels.{AreAtMostIndex, AreOwnIndexes, AreFinalLabels, AreLinksBelow, AreLabelsOfLinks, LowersOneLabel, LowersLabels};
-ghost use Rattle.std.specs.Prelude.{◌≡◌, ◌≤◌, ◌<◌, ◌||◌, ◌∷◌, [], IfOk, get_or, length};
+ghost use Rattle.std.specs.Prelude.{◌≡◌, ◌≤◌, ◌<◌, ◌∷◌, [], IfOk, get_or, length};
 
-use lists_and_numbers::Memory;
+use design_model::Memory;
 use std::alloc::Global;
 
 /// A link between a line and the first line that has one of its ends.
@@ -51,14 +51,14 @@ fn sweep(labels: &mut Vec<u32>, links: &[LineLink]) -> bool
 {
     let mut changed = false;
     for link in links {
-        changed = join(labels, *link) | changed;
+        changed = join_labels(labels, *link) | changed;
     }
     changed
 }
 
 /// Lowers the labels of two linked lines, and of the lines that are these labels, to the lesser label of
 /// the latter two. Since labels of labels fall too, few sweeps are enough.
-fn join(labels: &mut Vec<u32>, link: LineLink) -> bool
+fn join_labels(labels: &mut Vec<u32>, link: LineLink) -> bool
     requires low { AreAtMostIndex labels.old.items }
     requires line { link.line < length labels.old.items }
     requires first { link.first < length labels.old.items }

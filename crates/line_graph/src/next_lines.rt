@@ -3,7 +3,7 @@ ghost use Rattle.line_graph.specs.NextLines.{AreNextFrom};
 ghost use Rattle.line_graph.specs.PieceLabels.{lines_labelled};
 ghost use Rattle.std.specs.Prelude.{◌≡◌, ◌<◌, ◌≤◌, IfOk, get_or, length, set};
 
-use lists_and_numbers::{Memory, Numbers};
+use design_model::{Memory, Numbers};
 use std::alloc::Global;
 
 /// Returns for each line the next line with the same label, or the number of lines where there is none.

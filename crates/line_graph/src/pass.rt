@@ -1,4 +1,4 @@
-use lists_and_numbers::Items;
+use design_model::Items;
 
 /// A pass: a line that a walk follows once. `line` is its index in the drawing. A pass goes from the line's
 /// first point to its last, or the other way where `back` is set.

@@ -1,8 +1,7 @@
 ghost use Rattle.line_graph.specs.ValidPieces.{IsValidPiece};
 
 use crate::edge::Edges;
-use design_model::Points;
-use lists_and_numbers::{Items, Numbers};
+use design_model::{Items, Numbers, Points};
 
 /// A piece as a graph: the lines of a connected component, which are of one block and connected by shared
 /// ends.

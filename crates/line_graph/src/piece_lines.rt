@@ -1,18 +1,17 @@
 ghost use Rattle.line_graph.specs.PieceGraphs.{first_junction_among, junction_at_spot, piece_graph};
-ghost use Rattle.line_graph.specs.PieceLabels.{IsPiece, lines_labelled};
+ghost use Rattle.line_graph.specs.PieceLabels.{IsPiece};
 ghost use Rattle.line_graph.specs.Pieces.{first_line};
 ghost use Rattle.line_graph.specs.PiecesOfDrawings.{graph_of};
 ghost use Rattle.line_graph.specs.ValidPieces.{IsValidPiece};
 ghost use Rattle.std.specs.Prelude.{◌≡◌, ◌<◌, ◌≤◌, IfOk, length};
 
 use crate::degrees::degrees;
+use crate::drawing::Drawing;
 use crate::junctions::edges;
 use crate::piece::Piece;
-use design_model::{Point, Points};
-use drawing_model::Drawing;
+use design_model::{Memory, Numbers, Point, Points};
 use indexmap::IndexSet;
 use line_sections::Spot;
-use lists_and_numbers::{Memory, Numbers};
 use std::alloc::Global;
 use step_splitter::split_points_lead;
 

@@ -1,7 +1,7 @@
-ghost use Rattle.drawing_model.specs.declared.limits.TheConstants.{MAX_COST};
 ghost use Rattle.line_graph.specs.PieceGraphs.{given_start, given_end};
 ghost use Rattle.line_graph.specs.PieceWalks.{edge_cost, edge_sum, piece_cost};
 ghost use Rattle.line_graph.specs.PiecesOfDrawings.{graph_of};
+ghost use Rattle.line_graph.specs.declared.limits.TheConstants.{MAX_COST};
 ghost use Rattle.std.specs.Prelude.{◌≡◌, ◌≤◌};
 
 use crate::edge::Edge;

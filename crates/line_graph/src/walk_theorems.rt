@@ -4,7 +4,7 @@ ghost use Rattle.line_graph.specs.Runs.{RunsAreSewn};
 ghost use Rattle.line_graph.specs.SewnWalks.{FittingWalksAreSewable, PiecesKeepLimits};
 ghost use Rattle.line_graph.specs.UniquePieces.{PiecesAreUnique};
 
-use drawing_model::needles_lead_along;
+use crate::drawing_theorems::needles_lead_along;
 use step_splitter::split_points_lead;
 
 /// Theorem: the design of runs sews the runs, where each has a needle point.

@@ -17,4 +17,4 @@ pub use Rattle.line_sections.specs.Sections.{inner_points, is_shared_point, is_w
 pub use Rattle.line_sections.specs.Sections.{sections_from, sections_of, sections_with_first, segments_from, segments_of}
 pub use Rattle.line_sections.specs.Spots.{is_same_spot}
 pub use Rattle.line_sections.specs.declared.spot.Spot.{Spot}
-pub use Rattle.lists_and_numbers.proofs.CallerLemmas.{same_number}
+pub use Rattle.design_model.proofs.ListLemmas.{same_number}

@@ -8,8 +8,7 @@ ghost use Rattle.std.specs.Prelude.{◌≡◌, ◌&&◌, ◌++◌, ◌∷◌, []
 use crate::line::Line;
 use crate::listed_points::{is_cut, listed_points};
 use crate::spot::Spot;
-use design_model::{Point, Points};
-use lists_and_numbers::Memory;
+use design_model::{Memory, Point, Points};
 use std::alloc::Global;
 use std::collections::HashMap;
 

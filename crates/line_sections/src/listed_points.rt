@@ -1,12 +1,11 @@
-ghost use Rattle.line_sections.specs.ListedPoints.{AreCutMarks, MarksLine, MarksSpot, SetsMark, is_cut_by, spot_at};
+ghost use Rattle.line_sections.specs.ListedPoints.{AreCutMarks, MarksLine, MarksSpot, SetsMark, is_cut_by};
 ghost use Rattle.line_sections.specs.Spots.{is_same_spot};
 ghost use Rattle.std.specs.HashMap.{get};
 ghost use Rattle.std.specs.Prelude.{◌≡◌, IfOk, OnOk, is_some};
 
 use crate::line::Line;
 use crate::spot::Spot;
-use design_model::Point;
-use lists_and_numbers::Memory;
+use design_model::{Memory, Point};
 use std::alloc::Global;
 use std::collections::HashMap;
 

@@ -4,7 +4,7 @@ use crate::properties::{cost, distance, fault};
 use crate::tests::tables::{axis, clusters, random, star};
 use crate::triangles::keeps_triangles;
 use blossom_match::{Matching, Moat, Moats, Pair, Pairs, match_all};
-use lists_and_numbers::{Memory, Numbers};
+use design_model::{Memory, Numbers};
 use odd_sets::DistTable;
 use std::alloc::Global;
 use std::process::Abort;

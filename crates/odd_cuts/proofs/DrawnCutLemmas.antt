@@ -1,10 +1,10 @@
 -- A packing over the graph of a piece is one over its lines.
 use Rattle.std.proofs.Common.{◌≡◌, ◌≤◌, ℕ, ◌+◌, ◌*◌, ◌%◌, Bool, cond, List, [], ◌∷◌, map, option_map, Option, Some, None, All, sum_by, arith, refl, ◌∙◌}
 use Rattle.odd_cuts.proofs.Names.{nat_tests, All-cons, All-head, All-nil, All-tail, count_by, option_or, Point, Edge, closing_edge, edges_with_closing, one_if, edge_sum, IsValidPiece, Cut, has_member, load_on, IsOddCut, odd_held, All-weaker, edge_between, first_junction_among, junction_number, junctions_of, piece_graph}
-use Rattle.drawing_model.specs.Drawings.{DrawingValue, block_of}
+use Rattle.line_graph.specs.Drawings.{DrawingValue, block_of}
 use Rattle.line_graph.specs.DrawnWalks.{GivenPointsAreJunctions, given_point}
 use Rattle.line_graph.specs.Pieces.{first_line}
-use Rattle.drawing_model.specs.LineNeedles.{cost_of_line}
+use Rattle.line_graph.specs.LineNeedles.{cost_of_line}
 use Rattle.odd_cuts.specs.DrawnCuts.{IsOddOver, PackingsAreOverLines, given_apart, leads_out}
 use Rattle.odd_cuts.proofs.Crossing.{crossing}
 use Rattle.odd_cuts.proofs.Degrees.{count_is, counted}

@@ -7,7 +7,7 @@ pub use Rattle.std.proofs.lemmas.Option.{get_or_from_slice_get, slice_get-get_or
 pub use Rattle.std.specs.List.{count_by, fold, range_with_len}
 pub use Rattle.std.specs.Option.{option_or}
 pub use Rattle.design_model.specs.declared.point.Point.{Point}
-pub use Rattle.drawing_model.specs.declared.limits.TheConstants.{MAX_LINES}
+pub use Rattle.line_graph.specs.declared.limits.TheConstants.{MAX_LINES}
 pub use Rattle.line_graph.proofs.CallerLemmas.{degree_closed, degrees_few, ends_at, lost, stays_lost}
 pub use Rattle.line_graph.specs.PieceGraphs.{PieceValue, closing_edge, degree, degrees_from, edge_between, edges_with_closing}
 pub use Rattle.line_graph.specs.PieceGraphs.{first_junction_among, given_end, given_start, is_odd, junction_number, junctions_of, one_if}
@@ -19,7 +19,7 @@ pub use Rattle.line_graph.specs.PiecesOfDrawings.{graph_of}
 pub use Rattle.line_graph.specs.ValidPieces.{IsValidPiece, NoEdgeLeaves, all_below, ends_below}
 pub use Rattle.line_graph.specs.declared.edge.Edge.{Edge}
 pub use Rattle.line_graph.specs.declared.pass.Pass.{Pass}
-pub use Rattle.lists_and_numbers.proofs.CallerLemmas.{eq_self, test_none}
+pub use Rattle.design_model.proofs.ListLemmas.{eq_self, test_none}
 pub use Rattle.odd_cuts.specs.CheckTables.{AddsShares, AreAtMost, AreLoads, AreMemberFlags, odd_among, parities_from, share_of}
 pub use Rattle.odd_cuts.specs.CheckTables.{table_load_faults}
 pub use Rattle.odd_cuts.specs.CutFaults.{HaveNumberedMembers, cut_fault, cut_faults, cuts_fault, load_fault, load_faults, stranger_fault}

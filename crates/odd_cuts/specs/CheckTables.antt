@@ -9,7 +9,7 @@ use Rattle.odd_cuts.specs.Cuts.{crosses, has_member, load_on}
 use Rattle.odd_cuts.specs.Faults.{first_fault}
 use Rattle.odd_cuts.specs.WalkFaults.{faults_from, pass_faults}
 use Rattle.line_graph.specs.declared.edge.Edge.{Edge}
-use Rattle.drawing_model.specs.declared.limits.TheConstants.{MAX_LINES}
+use Rattle.line_graph.specs.declared.limits.TheConstants.{MAX_LINES}
 use Rattle.line_graph.specs.declared.pass.Pass.{Pass}
 use Rattle.line_graph.specs.PieceGraphs.{PieceValue, one_if, given_start, is_odd, given_end}
 use Rattle.line_graph.specs.PieceWalks.{edge_cost, edge_of, walk_start, pass_sum, walk_end_from}

@@ -5,11 +5,11 @@ use Rattle.std.specs.List.{list_any}
 use Rattle.odd_cuts.specs.declared.cut.Cut.{Cut}
 use Rattle.odd_cuts.specs.Packings.{IsPacking}
 use Rattle.design_model.specs.declared.point.Point.{Point}
-use Rattle.drawing_model.specs.Drawings.{DrawingValue, first_point, last_point, points_of}
+use Rattle.line_graph.specs.Drawings.{DrawingValue, first_point, last_point, points_of}
 use Rattle.line_graph.specs.DrawnWalks.{given_point}
 use Rattle.line_graph.specs.PieceGraphs.{junction_number, junctions_of, piece_graph}
 use Rattle.line_graph.specs.ValidPieces.{IsValidPiece}
-use Rattle.drawing_model.specs.LineNeedles.{cost_of_line}
+use Rattle.line_graph.specs.LineNeedles.{cost_of_line}
 
 -- A cut of a piece holds a point: the junction there is a member. The members are the numbers of
 -- junctions, in the order in which the lines of the piece name them.

@@ -1,6 +1,6 @@
 use crate::cut::Cuts;
+use design_model::Items;
 use line_graph::Walk;
-use lists_and_numbers::Items;
 
 /// The certificate of a piece. The fields are the cost in steps of its walk above that of its lines, the
 /// walk, and cuts that prove that no walk costs less.

@@ -1,4 +1,4 @@
-use lists_and_numbers::{Items, Numbers};
+use design_model::{Items, Numbers};
 
 /// A set of junctions of a piece, by index, and its weight in halves of a step.
 #[derive(Drop)]

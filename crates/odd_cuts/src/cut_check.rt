@@ -7,24 +7,23 @@ ghost use Rattle.odd_cuts.specs.Faults.{ReportsFault};
 ghost use Rattle.odd_cuts.specs.Packings.{IsPacking};
 ghost use Rattle.std.specs.Prelude.{◌≡◌, ◌+◌, ◌*◌, ◌-◌, ◌<◌, ◌≤◌, ◌^◌, ◌↔◌, All, IsOk, length};
 
-use crate::cut::Cut;
+use crate::cut::{Cut, Cuts};
 use crate::faults::CutFault;
 use crate::held_junctions::{MAX_JUNCTIONS, count_odd, held_by, parities_of};
 use crate::line_loads::{add_shares, check_loads};
-use drawing_model::MAX_LINES;
-use line_graph::Piece;
+use line_graph::{MAX_LINES, Piece};
 
 /// Checks that cuts are a packing of a piece with a total weight of twice the retraced cost, which is in
 /// steps. Reports the first fault. Over the cuts in order: a member that is no junction, then an even number
 /// of odd junctions. Over the lines in order: a load that is too high. Last: the total weight.
-pub fn check_cuts(p: &Piece, retraced: u32, cuts: &[Cut]) -> Result<(), CutFault>
+pub fn check_cuts(p: &Piece, retraced: u32, cuts: &Cuts) -> Result<(), CutFault>
     requires few { length cuts.now < 2 ^ 32 - 1 }
     requires members { HaveNumberedMembers cuts.now }
     ensures exact { IsOk result
         ↔ (IsPacking (graph_of p.now) cuts.now × (total_weight cuts.now ≡ 2 * retraced)) }
     ensures cause { ReportsFault (cuts_fault (graph_of p.now) retraced cuts.now) result }
 {
-    first_fault(p, retraced, cuts)
+    first_fault(p, retraced, cuts.as_slice())
 }
 
 /// Reports the first fault of the cuts, the loads and the total.

@@ -2,8 +2,7 @@ ghost use Rattle.line_graph.specs.PieceWalks.{edge_of};
 ghost use Rattle.odd_cuts.specs.CheckTables.{AreEdgeIndexes};
 ghost use Rattle.std.specs.Prelude.{◌≡◌, get_or, slice_get};
 
-use drawing_model::MAX_LINES;
-use line_graph::{Edge, Piece};
+use line_graph::{Edge, MAX_LINES, Piece};
 
 /// Returns, for each line of the drawing, the index of its edge in the piece, or `MAX_LINES` where there is
 /// none.

@@ -1,5 +1,5 @@
-ghost use Rattle.drawing_model.specs.declared.limits.TheConstants.{MAX_LINES as most_lines};
 ghost use Rattle.line_graph.specs.ValidPieces.{ends_below};
+ghost use Rattle.line_graph.specs.declared.limits.TheConstants.{MAX_LINES as most_lines};
 ghost use Rattle.odd_cuts.specs.CheckTables.{AddsShares, AreAtMost, AreMemberFlags, share_of, table_load_faults};
 ghost use Rattle.odd_cuts.specs.CutFaults.{load_fault};
 ghost use Rattle.odd_cuts.specs.Faults.{ReportsFault};
@@ -8,8 +8,7 @@ ghost use Rattle.std.specs.Prelude.{◌≡◌, ℕ, ◌*◌, ◌+◌, ◌-◌, �
 use crate::cut::Cut;
 use crate::faults::CutFault;
 use crate::held_junctions::MAX_JUNCTIONS;
-use drawing_model::MAX_LINES;
-use line_graph::{Edge, Piece};
+use line_graph::{Edge, MAX_LINES, Piece};
 
 /// Adds the load of a cut to the load of each edge.
 pub(crate) fn add_shares(

@@ -1,10 +1,9 @@
-ghost use Rattle.drawing_model.specs.declared.limits.TheConstants.{MAX_LINES as most_lines};
 ghost use Rattle.line_graph.specs.PieceWalks.{is_line_passed};
+ghost use Rattle.line_graph.specs.declared.limits.TheConstants.{MAX_LINES as most_lines};
 ghost use Rattle.std.specs.Prelude.{◌≡◌, ℕ, ◌<◌, false, get_or};
 
 use crate::flags::set_flag;
-use drawing_model::MAX_LINES;
-use line_graph::Pass;
+use line_graph::{MAX_LINES, Pass};
 
 /// Returns, for each line of the drawing, whether a walk passes it.
 pub(crate) fn passed_lines(walk: &[Pass]) -> [bool; MAX_LINES]

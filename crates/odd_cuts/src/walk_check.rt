@@ -1,8 +1,8 @@
-ghost use Rattle.drawing_model.specs.declared.limits.TheConstants.{MAX_LINES as most_lines};
 ghost use Rattle.line_graph.specs.PieceGraphs.{given_start, given_end};
 ghost use Rattle.line_graph.specs.PieceWalks.{are_same_junction, pass_end, is_fitting_walk, pass_start, walk_cost};
 ghost use Rattle.line_graph.specs.PiecesOfDrawings.{graph_of};
 ghost use Rattle.line_graph.specs.ValidPieces.{all_below};
+ghost use Rattle.line_graph.specs.declared.limits.TheConstants.{MAX_LINES as most_lines};
 ghost use Rattle.odd_cuts.specs.CheckTables.{AreEdgeIndexes, IsSummaryFrom, IsWalkSummary};
 ghost use Rattle.odd_cuts.specs.Faults.{ReportsFault};
 ghost use Rattle.odd_cuts.specs.WalkFaults.{ChecksWalk, ends_fault, missing_fault};
@@ -11,8 +11,7 @@ ghost use Rattle.std.specs.Prelude.{◌≡◌, ◌<◌, ◌-◌, ◌^◌, IfOk, 
 use crate::faults::WalkFault;
 use crate::line_indexes::{edge_indexes, find_edge};
 use crate::passed_lines::passed_lines;
-use drawing_model::MAX_LINES;
-use line_graph::{Edge, Pass, Piece};
+use line_graph::{Edge, MAX_LINES, Pass, Piece};
 
 /// Returns the cost in steps of a walk that fits the piece. A fitting walk leads from the required start to
 /// the required end, or is closed where none is required, and passes each line. Reports the first fault. Over

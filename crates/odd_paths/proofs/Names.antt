@@ -10,7 +10,7 @@ pub use Rattle.std.proofs.lemmas.List.Sums.{count_by-le-length, length-filter, s
 pub use Rattle.std.proofs.lemmas.Option.{slice_get-get_or, slice_get_within}
 pub use Rattle.std.specs.List.{filter, range_with_len}
 pub use Rattle.std.specs.Prelude.{cond, if◌then◌else◌, nat_le, nat_lt, slice_index, slice_set}
-pub use Rattle.drawing_model.specs.declared.limits.TheConstants.{MAX_COST, MAX_LINES}
+pub use Rattle.line_graph.specs.declared.limits.TheConstants.{MAX_COST, MAX_LINES}
 pub use Rattle.line_graph.proofs.CallerLemmas.{above_at, degree_closed, degrees_few, ends_of_back, or_below, stays_lost}
 pub use Rattle.line_graph.specs.PieceGraphs.{PieceValue, closing_edge, degree, degrees_from, edges_with_closing, given_end, given_start}
 pub use Rattle.line_graph.specs.PieceGraphs.{is_odd, is_odd_junction, odd_junctions, one_if}
@@ -20,7 +20,7 @@ pub use Rattle.line_graph.specs.PiecesOfDrawings.{graph_of}
 pub use Rattle.line_graph.specs.ValidPieces.{IsValidPiece, NoEdgeLeaves, all_costs_positive, ends_below}
 pub use Rattle.line_graph.specs.declared.edge.Edge.{Edge}
 pub use Rattle.line_graph.specs.declared.pass.Pass.{Pass}
-pub use Rattle.lists_and_numbers.proofs.CallerLemmas.{front_written, one_of, over_zero, same_test, some_same, sum_over}
+pub use Rattle.design_model.proofs.ListLemmas.{front_written, one_of, over_zero, same_test, some_same, sum_over}
 pub use Rattle.odd_paths.specs.CostTheorems.{AreDistances, LeastCostsAreDistances}
 pub use Rattle.odd_paths.specs.EdgeWalks.{AreLeastRows, Connects, EndsAreBelow, IsEdgeWalk, IsGraph, IsLeastEdgeCost, IsLeastRow}
 pub use Rattle.odd_paths.specs.EdgeWalks.{edge_walk_cost}

@@ -3,7 +3,7 @@
 use Rattle.std.specs.Prelude.{◌≡◌, ℕ, ◌+◌, ◌<◌, ◌≤◌, List, [], ◌∷◌, ◌++◌, Vec, length, map, min, slice_index, slice_set, sum, sum_by}
 use Rattle.std.proofs.Common.{Global}
 use Rattle.line_graph.specs.declared.edge.Edge.{Edge}
-use Rattle.drawing_model.specs.declared.limits.TheConstants.{MAX_COST}
+use Rattle.line_graph.specs.declared.limits.TheConstants.{MAX_COST}
 use Rattle.line_graph.specs.PieceWalks.{edge_cost, edge_sum}
 use Rattle.odd_paths.specs.declared.lanes.TheConstants.{LANES}
 use Rattle.odd_paths.specs.declared.sweeps.TheConstants.{NO_WALK}

@@ -1,7 +1,7 @@
 -- The last edge of a walk of least cost to a junction.
 use Rattle.std.specs.Prelude.{◌≡◌, ℕ, ◌+◌, ◌<◌, ◌≤◌, List, [], ◌∷◌, Bool, nat_eq, ◌&&◌, if◌then◌else◌, slice_index, Option, Some, None, length, true}
 use Rattle.line_graph.specs.declared.edge.Edge.{Edge}
-use Rattle.drawing_model.specs.declared.limits.TheConstants.{MAX_LINES}
+use Rattle.line_graph.specs.declared.limits.TheConstants.{MAX_LINES}
 use Rattle.line_graph.specs.ValidPieces.{all_costs_positive}
 use Rattle.odd_paths.specs.EdgeWalks.{EndsAreBelow, IsEdgeWalk, IsLeastRow, edge_walk_cost}
 

@@ -1,6 +1,6 @@
 -- The number of odd junctions of a piece.
 use Rattle.std.specs.Prelude.{◌≡◌, ◌%◌, ◌≤◌, length}
-use Rattle.drawing_model.specs.declared.limits.TheConstants.{MAX_LINES}
+use Rattle.line_graph.specs.declared.limits.TheConstants.{MAX_LINES}
 use Rattle.line_graph.specs.ValidPieces.{IsValidPiece}
 use Rattle.line_graph.specs.PieceGraphs.{PieceValue, odd_junctions}
 

@@ -1,10 +1,10 @@
-ghost use Rattle.drawing_model.specs.declared.limits.TheConstants.{MAX_LINES};
+ghost use Rattle.line_graph.specs.declared.limits.TheConstants.{MAX_LINES};
 ghost use Rattle.odd_paths.specs.EdgeWalks.{EndsAreBelow};
 ghost use Rattle.odd_paths.specs.declared.edge_order.TheConstants.{INDEXES};
 ghost use Rattle.std.specs.Prelude.{◌≡◌, ◌<◌, ◌≤◌, IfOk, length};
 
+use design_model::Memory;
 use line_graph::Edge;
-use lists_and_numbers::Memory;
 use std::alloc::Global;
 
 /// A number above all indexes of edges.

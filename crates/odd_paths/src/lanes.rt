@@ -1,9 +1,9 @@
-ghost use Rattle.drawing_model.specs.declared.limits.TheConstants.{MAX_COST};
 ghost use Rattle.line_graph.specs.PieceGraphs.{one_if};
+ghost use Rattle.line_graph.specs.declared.limits.TheConstants.{MAX_COST};
 ghost use Rattle.odd_paths.specs.Lanes.{EachLane, IsCapped, IsNoLower, CanRelax, lane_column, relaxed_cost, weight};
 ghost use Rattle.odd_paths.specs.Sweeps.{changes, is_lower, lowered_row, relaxed, relaxes, swept};
 ghost use Rattle.odd_paths.specs.declared.sweeps.TheConstants.{NO_WALK};
-ghost use Rattle.std.specs.Prelude.{◌≡◌, ◌+◌, ◌<◌, ◌≤◌, ◌||◌, false, length, slice_index, sum};
+ghost use Rattle.std.specs.Prelude.{◌≡◌, ◌+◌, ◌<◌, ◌≤◌, false, length, slice_index, sum};
 
 use line_graph::Edge;
 

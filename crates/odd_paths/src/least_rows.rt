@@ -9,8 +9,8 @@ use crate::lanes::LANES;
 use crate::row_table::Rows;
 use crate::single_row::least_row;
 use crate::terminal_blocks::add_rows;
+use design_model::Memory;
 use line_graph::{Edge, Piece};
-use lists_and_numbers::Memory;
 use std::alloc::Global;
 
 /// Returns the rows of least costs of a piece for the given terminals. The only error is out of memory.

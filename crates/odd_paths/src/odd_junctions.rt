@@ -1,13 +1,12 @@
-ghost use Rattle.drawing_model.specs.declared.limits.TheConstants.{MAX_LINES};
-ghost use Rattle.line_graph.specs.ClosedDegrees.{closing_ends};
-ghost use Rattle.line_graph.specs.PieceGraphs.{one_if, is_odd, odd_junctions};
+ghost use Rattle.line_graph.specs.PieceGraphs.{is_odd, odd_junctions};
 ghost use Rattle.line_graph.specs.PiecesOfDrawings.{graph_of};
+ghost use Rattle.line_graph.specs.declared.limits.TheConstants.{MAX_LINES};
 ghost use Rattle.odd_paths.specs.OddDegrees.{odds_from, singleton_if};
 ghost use Rattle.odd_paths.specs.OddJunctions.{OddsAreEven};
 ghost use Rattle.std.specs.Prelude.{◌≡◌, ◌+◌, ◌++◌, ◌≤◌, IfOk, OnOk, length};
 
+use design_model::{Memory, Numbers};
 use line_graph::{Piece, is_odd_at};
-use lists_and_numbers::{Memory, Numbers};
 use std::alloc::Global;
 
 /// Returns the indexes of the odd junctions of a piece, in rising order. The only error is out of memory.

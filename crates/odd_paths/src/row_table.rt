@@ -3,8 +3,8 @@ ghost use Rattle.odd_paths.specs.LeastRows.{AreRows, IsPath, cost_at, row_length
 ghost use Rattle.std.specs.Prelude.{◌≡◌, ◌<◌, IfOk, Some, length, map, slice_get};
 
 use crate::walk_back::places;
+use design_model::{Memory, Numbers};
 use line_graph::Piece;
-use lists_and_numbers::{Memory, Numbers};
 use std::alloc::Global;
 use std::marker::Model;
 

@@ -2,8 +2,8 @@ ghost use Rattle.odd_paths.specs.EdgeWalks.{IsGraph, IsLeastRow};
 ghost use Rattle.std.specs.Prelude.{◌<◌, IfOk};
 
 use crate::sweeps::{NO_WALK, settle};
+use design_model::Memory;
 use line_graph::Edge;
-use lists_and_numbers::Memory;
 use std::alloc::Global;
 
 /// Returns the least costs from a junction to each of `n` junctions.

@@ -1,15 +1,15 @@
-ghost use Rattle.drawing_model.specs.declared.limits.TheConstants.{MAX_LINES};
+ghost use Rattle.line_graph.specs.declared.limits.TheConstants.{MAX_LINES};
 ghost use Rattle.odd_paths.specs.EdgeWalks.{EndsAreBelow, IsGraph};
 ghost use Rattle.odd_paths.specs.Lanes.{AddsColumns, AddsRows, AreLeastColumns, HaveStarts, IsCapped, lane_column};
 ghost use Rattle.odd_paths.specs.declared.sweeps.TheConstants.{NO_WALK};
-ghost use Rattle.std.specs.Prelude.{ℕ, ◌≡◌, ◌≢◌, ◌++◌, ◌<◌, ◌≤◌, false, All, IfOk, OnOk, length, replicate, slice_index, slice_set};
+ghost use Rattle.std.specs.Prelude.{ℕ, ◌≡◌, ◌≢◌, ◌<◌, ◌≤◌, false, All, IfOk, OnOk, length, replicate, slice_index, slice_set};
 
 use crate::edge_order::order_by;
 use crate::lanes::LANES;
 use crate::rounds::settle;
 use crate::sweeps::NO_WALK;
+use design_model::Memory;
 use line_graph::Edge;
-use lists_and_numbers::Memory;
 use std::alloc::Global;
 
 /// Appends the rows of at most sixteen terminals, and returns the order of the edges for the next ones.

@@ -2,8 +2,8 @@ ghost use Rattle.odd_paths.specs.EdgeWalks.{EndsAreBelow};
 ghost use Rattle.odd_paths.specs.LastEdges.{IsLeastEdgeWalk, IsRowFrom, is_last_edge, last_edge_from};
 ghost use Rattle.std.specs.Prelude.{◌≡◌, ◌<◌, IfOk, length};
 
+use design_model::Memory;
 use line_graph::Edge;
-use lists_and_numbers::Memory;
 use std::alloc::Global;
 
 /// Returns the indexes of the edges of a least walk from `from` to `j`, by the row of `from`.

@@ -9,7 +9,7 @@ ghost use Rattle.std.specs.Prelude.{◌≡◌, ◌≤◌, ◌<◌, ℕ, length, 
 use crate::odd_set::{BlossomPart, Sets};
 use crate::slack_rows::{far_cells, merge, put};
 use crate::table::FAR;
-use lists_and_numbers::Memory;
+use design_model::Memory;
 use std::alloc::Global;
 use std::collections::VecDeque;
 

@@ -4,7 +4,7 @@ ghost use Rattle.std.specs.Prelude.{◌≡◌, ◌++◌, ◌∷◌, [], reverse,
 
 use crate::matches::Match;
 use crate::odd_set::{Handle, Sets, TightEdge};
-use lists_and_numbers::Memory;
+use design_model::Memory;
 
 /// A branch of the alternating tree: an inner set and the outer set that it is matched with. The edge `up`
 /// leads from an earlier outer set to the inner set, and `pair` from the inner set to its partner.

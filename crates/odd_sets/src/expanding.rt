@@ -9,7 +9,7 @@ use crate::blossom::{listed, part_with, turned_to};
 use crate::branches::{Branch, hang};
 use crate::matches::{Match, pair_off};
 use crate::odd_set::{BlossomPart, Handle, Sets};
-use lists_and_numbers::Memory;
+use design_model::Memory;
 use std::alloc::Global;
 use std::collections::VecDeque;
 

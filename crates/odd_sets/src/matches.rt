@@ -6,7 +6,7 @@ ghost use Rattle.std.specs.Prelude.{◌≡◌, ◌≤◌, ◌<◌, ◌+◌, leng
 ghost use Rattle.std.specs.Vec.Iter.{into_iter_items};
 
 use crate::odd_set::{BlossomPart, Handle, Sets, TightEdge};
-use lists_and_numbers::Memory;
+use design_model::Memory;
 use std::alloc::Global;
 
 /// Two odd sets that are matched by an edge from the first to the second.

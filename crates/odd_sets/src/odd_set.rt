@@ -3,12 +3,12 @@ ghost use Rattle.odd_sets.specs.Blossoms.{reversed_edge, dual_sets_in, members_i
 ghost use Rattle.odd_sets.specs.DualSets.{count};
 ghost use Rattle.odd_sets.specs.Slots.{members_at, slacks_at, parts_at, parts_in, set_in, AreSets, InsertsSet};
 ghost use Rattle.odd_sets.specs.Tables.{IsTable};
-ghost use Rattle.std.specs.Prelude.{◌≡◌, ◌≤◌, ◌+◌, ◌<◌, IsTrue, false, length, nat_lt, slice_index, IfOk};
+ghost use Rattle.std.specs.Prelude.{◌≡◌, ◌≤◌, ◌<◌, IsTrue, false, length, nat_lt, slice_index, IfOk};
 
 use crate::blossom::row_of;
 use crate::slack_rows::single_row;
 use crate::table::DistTable;
-use lists_and_numbers::Memory;
+use design_model::Memory;
 use slab::Slab;
 use std::alloc::Global;
 

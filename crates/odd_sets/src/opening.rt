@@ -6,7 +6,7 @@ ghost use Rattle.std.specs.Prelude.{◌≡◌, ◌≤◌, ℕ, IfOk};
 use crate::blossom::turned_to;
 use crate::matches::{Match, pair_off};
 use crate::odd_set::{Handle, Sets};
-use lists_and_numbers::Memory;
+use design_model::Memory;
 use std::alloc::Global;
 
 /// A set that was opened: the part with the member that is paired outside, and the others matched.

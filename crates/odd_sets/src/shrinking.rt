@@ -9,7 +9,7 @@ ghost use Rattle.std.specs.Prelude.{◌≡◌, ◌≤◌, ◌∷◌, ◌++◌, [
 use crate::blossom::listed;
 use crate::branches::{Branch, put_back};
 use crate::odd_set::{BlossomPart, Handle, Sets, TightEdge, blossom_of};
-use lists_and_numbers::Memory;
+use design_model::Memory;
 use std::alloc::Global;
 use std::collections::VecDeque;
 

@@ -6,7 +6,7 @@ ghost use Rattle.odd_sets.specs.declared.table.TheConstants.{FAR};
 ghost use Rattle.std.specs.Prelude.{◌≡◌, ◌<◌, ℕ, length, slice_index, IfOk};
 
 use crate::table::{DistTable, FAR};
-use lists_and_numbers::Memory;
+use design_model::Memory;
 use std::alloc::Global;
 
 /// Returns a slack less a dual, at least 0; FAR stays FAR.

@@ -2,7 +2,7 @@ ghost use Rattle.odd_sets.specs.Tables.{after_set, entry, EntriesAre, IsTable};
 ghost use Rattle.odd_sets.specs.declared.table.TheConstants.{MAX_DISTANCE, MAX_PLACES};
 ghost use Rattle.std.specs.Prelude.{◌≡◌, ◌≢◌, ◌+◌, ◌*◌, ◌<◌, ◌≤◌, length, IfOk};
 
-use lists_and_numbers::Memory;
+use design_model::Memory;
 use std::alloc::Global;
 use std::marker::Model;
 

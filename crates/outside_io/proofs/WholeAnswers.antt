@@ -3,7 +3,7 @@ use Rattle.std.proofs.Common.{◌≡◌, ℕ, List, Ok, Err, Option, Result, ari
 use Rattle.outside_io.proofs.Names.{ReadsWholeFile, whole_file_result, IsFileLonger, IsFaultless, WhereVisible, StoreView, nat_tests, get_is_out_of_memory}
 use Rattle.outside_io.specs.declared.whole_files.GetFault.{GetFault}
 use Rattle.outside_io.specs.declared.whole_files.GetFault.TheVariants as fault
-use Rattle.lists_and_numbers.specs.OutOfMemory.{IsSpecified}
+use Rattle.design_model.specs.OutOfMemory.{IsSpecified}
 use Rattle.outside_io.proofs.CallerLemmas.{no_rise}
 
 -- a longer file is refused

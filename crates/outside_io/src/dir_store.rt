@@ -11,12 +11,12 @@ use crate::store::{Failed, ReadStop, Store};
 use crate::turns::read_some;
 use crate::writing::write_all;
 use arrayvec::ArrayVec;
+use std::{fs, io};
 use std::alloc::Global;
 use std::fs::File;
 use std::io::{Read, Seek, SeekFrom};
 use std::marker::Model;
 use std::rt::Files;
-use std::{fs, io};
 
 /// An open file that was read from its beginning up to an offset, where reading can continue.
 #[derive(Drop)]
@@ -61,7 +61,7 @@ impl<'a, R: Files> DirStore<'a, R> {
     }
 
     /// Completes a pending file, then continues in the open file if it is at that offset, else opens the file.
-    fn read_next(&mut self, name: &str, at: u64, buf: &mut [u8]) -> io::Result<usize>
+    fn read_from(&mut self, name: &str, at: u64, buf: &mut [u8]) -> io::Result<usize>
         requires { length name.now ≤ MAX_NAME }
         ensures same { self.new ≡ self.old }
         ensures bound { IfOk result (λ count. count ≤ length buf.new) }
@@ -102,7 +102,7 @@ impl<'a, R: Files> Store for DirStore<'a, R> {
             buf.new result }
         ensures exact { LogsFailedCall (read_call name.now) self.old self.new result }
     {
-        match self.read_next(name, at, buf) {
+        match self.read_from(name, at, buf) {
             Ok(count) => Ok(count),
             Err(_) => {
                 self.opened = None;
@@ -171,7 +171,7 @@ fn add_next<R: Files>(
         Some(new) => new.take_place(rt, &[])?,
         None => {}
     }
-    add_to_file(rt, name, bytes)
+    append_to(rt, name, bytes)
 }
 
 /// Completes a pending file, if there is one: it replaces the old file.
@@ -208,7 +208,7 @@ fn open_at<R: Files>(rt: &R, name: &str, at: u64) -> io::Result<OpenedFile<R::Fi
 }
 
 /// Appends all the bytes to an existing file.
-fn add_to_file<R: Files>(rt: &R, name: &str, bytes: &[u8]) -> io::Result<()> {
+fn append_to<R: Files>(rt: &R, name: &str, bytes: &[u8]) -> io::Result<()> {
     let mut options = File::options();
     options.append(true);
     let mut file = options.open(rt, name)?;

@@ -4,7 +4,7 @@ ghost use Rattle.std.specs.Bool.{OnTrue, OnFalse};
 ghost use Rattle.std.specs.Prelude.{◌≡◌, [], not, IfSome, IfNone, OnOk, OnErr, is_some, IsSome};
 
 use crate::entry::Entry;
-use lists_and_numbers::Memory;
+use design_model::Memory;
 use std::alloc::Global;
 
 /// Returns the index of the entry of that name.

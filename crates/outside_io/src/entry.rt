@@ -1,6 +1,6 @@
 ghost use Rattle.std.specs.Prelude.{◌≡◌, ◌+◌, ◌≤◌, ◌++◌, [], length, IfOk, IfSome, IfNone, OnOk, OnErr, IsSome, nat_le, max, unwrap_or, bytes_eq};
 
-use lists_and_numbers::Memory;
+use design_model::Memory;
 use std::alloc::Global;
 use std::marker::Model;
 

@@ -5,7 +5,7 @@ ghost use Rattle.std.specs.Prelude.{◌≡◌, OnOk, OnErr, IfOk};
 
 use crate::sink::Sink;
 use crate::store::Failed;
-use lists_and_numbers::Memory;
+use design_model::Memory;
 use std::alloc::Global;
 use std::marker::Model;
 

@@ -1,4 +1,4 @@
-ghost use Rattle.lists_and_numbers.specs.declared.limits.TheConstants.{MAX_FILE};
+ghost use Rattle.design_model.specs.declared.limits.TheConstants.{MAX_FILE};
 ghost use Rattle.outside_io.specs.Causes.{AppendsBytes, ReadsAt, WritesFile};
 ghost use Rattle.outside_io.specs.Counts.{next_count};
 ghost use Rattle.outside_io.specs.Files.{ChangesOnlyFile, FileExists, IsFileName};
@@ -9,7 +9,7 @@ use crate::blame::{CallKind, FaultLog};
 use crate::entries::{add_to_file, content_of, make_file, raise_room, set_file};
 use crate::entry::Entry;
 use crate::store::{Failed, ReadStop, Store};
-use lists_and_numbers::Memory;
+use design_model::Memory;
 use std::alloc::Global;
 use std::marker::Model;
 

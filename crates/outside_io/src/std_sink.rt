@@ -8,6 +8,7 @@ use crate::store::Failed;
 use crate::writing::write_all;
 use std::io::Write;
 use std::marker::Model;
+use std::rt::{Stderr, Stdout};
 
 /// A stream of the system, as standard output, whose bytes are hidden from contracts. The bytes of its writer
 /// grow by what is put, if they are known.
@@ -31,6 +32,24 @@ impl<W: Write + Drop> StdSink<W> {
         ensures { result ≡ record { held = W.contents writer; faults = 0 } }
     {
         StdSink { writer, faults: 0 }
+    }
+}
+
+impl StdSink<Stdout> {
+    /// Returns a sink over standard output, without faults.
+    pub fn out(rt: &HostRuntime) -> Self
+        ensures { result.faults ≡ 0 }
+    {
+        StdSink::new(rt.stdout())
+    }
+}
+
+impl StdSink<Stderr> {
+    /// Returns a sink over standard error, without faults.
+    pub fn err(rt: &HostRuntime) -> Self
+        ensures { result.faults ≡ 0 }
+    {
+        StdSink::new(rt.stderr())
     }
 }
 

@@ -1,4 +1,4 @@
-ghost use Rattle.lists_and_numbers.specs.declared.limits.TheConstants.{MAX_FILE};
+ghost use Rattle.design_model.specs.declared.limits.TheConstants.{MAX_FILE};
 ghost use Rattle.outside_io.specs.Causes.{AppendsBytes, ReadsAt, WritesFile};
 ghost use Rattle.outside_io.specs.Files.{FileExists, IsFileName};
 ghost use Rattle.outside_io.specs.Views.{StoreView};

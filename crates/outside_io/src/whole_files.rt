@@ -1,5 +1,5 @@
-ghost use Rattle.lists_and_numbers.specs.OutOfMemory.{IsSpecified};
-ghost use Rattle.lists_and_numbers.specs.declared.limits.TheConstants.{MAX_FILE};
+ghost use Rattle.design_model.specs.OutOfMemory.{IsSpecified};
+ghost use Rattle.design_model.specs.declared.limits.TheConstants.{MAX_FILE};
 ghost use Rattle.outside_io.specs.Causes.{ReadsWholeFile, WritesFile, get_is_out_of_memory, whole_file_result};
 ghost use Rattle.outside_io.specs.Counts.{IsFaultless};
 ghost use Rattle.outside_io.specs.FileParts.{ReadsNextPart};
@@ -8,7 +8,7 @@ ghost use Rattle.outside_io.specs.declared.whole_files.GetFault.TheVariants as f
 ghost use Rattle.std.specs.Prelude.{◌≡◌, ◌<◌, ◌≤◌, length};
 
 use crate::store::{Failed, ReadStop, Store};
-use lists_and_numbers::{Bytes, Memory};
+use design_model::{Bytes, Memory};
 use std::alloc::Global;
 
 /// The number of bytes requested by one read.

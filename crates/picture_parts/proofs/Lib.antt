@@ -1,3 +1,2 @@
 mod TemplateLemmas
-mod RootLemmas
 mod PartFacts

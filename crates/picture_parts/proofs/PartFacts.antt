@@ -1,9 +1,8 @@
--- Worked values of parts, colours and lengths.
+-- Worked values of parts and colours.
 use Rattle.std.proofs.Common.{◌≡◌, ℤ, pos, negsuc, [], ◌∷◌, ◌++◌, codes, map, refl}
 use Rattle.std.specs.Fmt.{digits}
 use Rattle.design_model.specs.declared.point.Point.{Point}
 use Rattle.picture_parts.specs.Colours.{colour_of_thread}
-use Rattle.picture_parts.specs.Lengths.{length_of, square_of, whole_root}
 use Rattle.picture_parts.specs.Parts.{escaped_text, filled, mm_text}
 use Rattle.picture_parts.specs.Sheets.{head_text, style_text}
 
@@ -15,11 +14,6 @@ pub known_colours : map colour_of_thread (5 ∷ 22 ∷ 37 ∷ 20 ∷ 64 ∷ 0 �
     ∷ codes "#66ba49" ∷ codes "#000000" ∷ codes "#ffc8c8" ∷ codes "#ffc8c8" ∷ codes "#0e1f7c" ∷ []
 unfolding colour_of_thread
 known_colours = refl
-
--- 0.3 mm across and 0.4 mm down are 0.5 mm; the diagonal of a tenth is 0.141 mm.
-pub known_lengths : map (length_of (point (pos 0) (pos 0))) (point (pos 3) (negsuc 3) ∷ point (pos 1) (pos 1) ∷ []) ≡ 500 ∷ 141 ∷ []
-unfolding length_of square_of whole_root
-known_lengths = refl
 
 pub known_mm : map mm_text (1 ∷ 10000 ∷ []) ≡ codes "0.1" ∷ codes "1000.0" ∷ []
 unfolding digits

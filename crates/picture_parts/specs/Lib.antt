@@ -3,5 +3,4 @@ pub mod Parts
 pub mod Paths
 pub mod Marks
 pub mod Colours
-pub mod Lengths
 pub mod Sheets

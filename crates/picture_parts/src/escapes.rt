@@ -1,7 +1,7 @@
 ghost use Rattle.picture_parts.specs.Parts.{escaped_byte, escaped_text};
 ghost use Rattle.std.specs.Prelude.{◌≡◌, ◌++◌, OnOk};
 
-use lists_and_numbers::{Bytes, Memory};
+use design_model::{Bytes, Memory};
 
 /// Appends characters, with those escaped that XML uses itself.
 pub fn put_escaped(text: &mut Bytes, label: &[u8]) -> Result<(), Memory>

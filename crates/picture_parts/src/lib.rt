@@ -1,10 +1,9 @@
-//! What pictures are made of: SVG texts in parts, paths and marks, the colours of threads, lengths, and the sheet
-//! that a picture is drawn on.
+//! What pictures are made of: SVG texts in parts, paths and marks, the colours of threads, and the sheet that
+//! a picture is drawn on.
 #![tactic(auto)]
 
 mod colours;
 mod escapes;
-mod lengths;
 mod marks;
 mod parts;
 mod paths;
@@ -12,7 +11,6 @@ mod sheet;
 
 pub use colours::thread_colour;
 pub use escapes::put_escaped;
-pub use lengths::{length_between, square_between};
 pub use marks::{Mark, put_mark};
 pub use parts::{Part, put, put_around};
 pub use paths::{put_coloured_path, put_move, put_path_end, put_path_start, put_straight};

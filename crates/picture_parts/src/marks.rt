@@ -2,8 +2,7 @@ ghost use Rattle.picture_parts.specs.Marks.{mark_template, mark_text, shape_at};
 ghost use Rattle.std.specs.Prelude.{◌≡◌, ◌++◌, OnOk};
 
 use crate::parts::{Part, put};
-use design_model::Point;
-use lists_and_numbers::{Bytes, Memory};
+use design_model::{Bytes, Memory, Point};
 
 /// A mark of a picture.
 #[derive(Clone, Copy)]

@@ -2,8 +2,7 @@ ghost use Rattle.picture_parts.specs.Parts.{around, filled, mm_text, part_text, 
 ghost use Rattle.std.specs.Prelude.{◌≡◌, ◌++◌, OnOk, map};
 
 use crate::escapes::put_escaped;
-use design_model::Point;
-use lists_and_numbers::{Bytes, Memory, put_decimal};
+use design_model::{Bytes, Memory, Point, put_decimal};
 use text_parts::length_before;
 
 /// A part of an SVG text.

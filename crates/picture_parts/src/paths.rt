@@ -2,8 +2,7 @@ ghost use Rattle.picture_parts.specs.Paths.{coloured_path, move_text, path_end, 
 ghost use Rattle.std.specs.Prelude.{◌≡◌, ◌++◌, OnOk};
 
 use crate::parts::{Part, put, put_around};
-use design_model::Point;
-use lists_and_numbers::{Bytes, Memory};
+use design_model::{Bytes, Memory, Point};
 
 /// Begins the path of a class.
 #[tactic(auto, unfolding(crate::specs::Paths::path_start))]

@@ -2,8 +2,7 @@ ghost use Rattle.picture_parts.specs.Sheets.{foot_text, head_text};
 ghost use Rattle.std.specs.Prelude.{◌≡◌, ◌++◌, OnOk};
 
 use crate::parts::{Part, put};
-use design_model::Point;
-use lists_and_numbers::{Bytes, Memory};
+use design_model::{Bytes, Memory, Point};
 
 /// The styles and arrows that the shapes of a picture use.
 const STYLE: &[u8] =

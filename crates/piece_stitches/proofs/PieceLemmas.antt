@@ -3,16 +3,16 @@ use Rattle.std.proofs.Common.{◌≡◌, ℕ, ◌*◌, ◌^◌, ◌<◌, ◌≤�
 use native.Mathlib.Omega.{arith}
 use Rattle.std.proofs.lemmas.List.Elements.{All-cons, All-head, All-nil, All-tail}
 use Rattle.std.specs.List.{concat}
-use Rattle.drawing_model.specs.declared.limits.TheConstants.{MAX_LINES}
+use Rattle.line_graph.specs.declared.limits.TheConstants.{MAX_LINES}
 use Rattle.line_graph.specs.declared.piece.Piece.{Piece}
-use Rattle.drawing_model.specs.Drawings.{DrawingValue, KeepsDrawingLimits}
+use Rattle.line_graph.specs.Drawings.{DrawingValue, KeepsDrawingLimits}
 use Rattle.line_graph.specs.SewnWalks.{PiecesKeepLimits}
 use Rattle.line_graph.specs.PiecesOfDrawings.{ArePiecesOf, graph_of, lines_of_pieces}
 use Rattle.piece_stitches.specs.declared.counting.PieceStitches.{PieceStitches}
 use Rattle.piece_stitches.specs.PieceStitches.{HasLinesOf, HasSmallLengths, HasSmallTotals, stitches_after, stitches_of_piece, total_thread, total_travel}
 use Rattle.piece_stitches.specs.Travels.{travel_between}
 use Rattle.line_graph.proofs.CallerLemmas.{length_of_lists}
-use Rattle.lists_and_numbers.proofs.CallerLemmas.{all_left, all_right}
+use Rattle.design_model.proofs.ListLemmas.{all_left, all_right}
 
 abbrev pub IsLineOf : DrawingValue → ℕ → Type 0
 IsLineOf d line = line < length d.lines

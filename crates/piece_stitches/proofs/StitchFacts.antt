@@ -1,9 +1,9 @@
 -- Worked summaries of stitches, and travels between pieces. Lengths are in thousandths of a millimetre.
 use Rattle.std.proofs.Common.{◌≡◌, ℕ, ℤ, pos, negsuc, [], ◌∷◌, Option, Some, None, true, false, refl}
 use Rattle.design_model.specs.declared.point.Point.{Point}
-use Rattle.drawing_model.specs.Drawings.{DrawingValue}
+use Rattle.line_graph.specs.Drawings.{DrawingValue}
 use Rattle.line_graph.specs.PieceGraphs.{PieceValue}
-use Rattle.picture_parts.specs.Lengths.{length_of, square_of, whole_root}
+use Rattle.design_model.specs.Lengths.{length_of, square_of, whole_root}
 use Rattle.piece_stitches.specs.StitchSummaries.{is_short, stitch_lengths, summary_of_lengths, summary_of_lines}
 use Rattle.piece_stitches.specs.Travels.{travel_between}
 

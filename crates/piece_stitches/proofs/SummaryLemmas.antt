@@ -2,12 +2,12 @@
 use Rattle.std.proofs.Common.{◌≡◌, ◌∙◌, ℕ, suc, ◌+◌, max, min, Bool, true, false, List, [], ◌∷◌, ◌++◌, filter, length, sum_by, if◌then◌else◌, refl, sym, ap}
 use native.Mathlib.Omega.{arith}
 use Rattle.std.proofs.lemmas.List.Sums.{sum_by-cons}
-use Rattle.drawing_model.specs.Drawings.{DrawingValue}
-use Rattle.drawing_model.specs.LineNeedles.{needles_of_line}
+use Rattle.line_graph.specs.Drawings.{DrawingValue}
+use Rattle.line_graph.specs.LineNeedles.{needles_of_line}
 use Rattle.piece_stitches.specs.declared.stitch_summary.StitchSummary.{StitchSummary}
 use Rattle.piece_stitches.specs.GrowingSummaries.{no_stitches, with_stitch, with_stitches}
 use Rattle.piece_stitches.specs.StitchSummaries.{is_short, least_from, lengths_of_lines, longest_of, stitch_lengths, summary_of_lengths}
-use Rattle.lists_and_numbers.proofs.CallerLemmas.{suc_zero}
+use Rattle.design_model.proofs.ListLemmas.{suc_zero}
 
 abbrev summary_with : (stitches shortest longest short thread : ℕ) → StitchSummary
 summary_with stitches shortest longest short thread =

@@ -1,9 +1,9 @@
 -- The stitches of pieces, in the order of sewing, with the travel to each from the one before.
 -- Lengths are in thousandths of a millimetre.
 use Rattle.std.specs.Prelude.{ℕ, ◌+◌, ◌^◌, ◌≤◌, ◌<◌, List, [], ◌∷◌, All, length}
-use Rattle.drawing_model.specs.declared.limits.TheConstants.{MAX_LINES}
+use Rattle.line_graph.specs.declared.limits.TheConstants.{MAX_LINES}
 use Rattle.line_graph.specs.declared.piece.Piece.{Piece}
-use Rattle.drawing_model.specs.Drawings.{DrawingValue}
+use Rattle.line_graph.specs.Drawings.{DrawingValue}
 use Rattle.line_graph.specs.PiecesOfDrawings.{graph_of}
 use Rattle.piece_stitches.specs.declared.counting.PieceStitches.{PieceStitches}
 use Rattle.piece_stitches.specs.StitchSummaries.{summary_of_lines}

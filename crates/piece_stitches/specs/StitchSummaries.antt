@@ -3,9 +3,9 @@
 use Rattle.std.specs.Prelude.{ℕ, max, min, Bool, nat_lt, List, [], ◌∷◌, filter, length, sum_by}
 use Rattle.std.specs.List.{flat_map}
 use Rattle.design_model.specs.declared.point.Point.{Point}
-use Rattle.drawing_model.specs.Drawings.{DrawingValue}
-use Rattle.drawing_model.specs.LineNeedles.{needles_of_line}
-use Rattle.picture_parts.specs.Lengths.{length_of}
+use Rattle.line_graph.specs.Drawings.{DrawingValue}
+use Rattle.line_graph.specs.LineNeedles.{needles_of_line}
+use Rattle.design_model.specs.Lengths.{length_of}
 use Rattle.piece_stitches.specs.declared.stitch_summary.StitchSummary.{StitchSummary}
 
 -- A length below 1 mm.

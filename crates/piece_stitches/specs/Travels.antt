@@ -3,7 +3,7 @@
 use Rattle.std.specs.Prelude.{ℕ, Option, Some, None, slice_get, unwrap_or}
 use Rattle.design_model.specs.declared.point.Point.{Point}
 use Rattle.line_graph.specs.PieceGraphs.{PieceValue, given_end, given_start}
-use Rattle.picture_parts.specs.Lengths.{length_of}
+use Rattle.design_model.specs.Lengths.{length_of}
 
 -- The point of a junction of a piece. It is the first junction where none is given: a piece without
 -- a start and an end begins at the first point of its first line, and ends there.

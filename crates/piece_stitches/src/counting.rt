@@ -1,14 +1,13 @@
-ghost use Rattle.drawing_model.specs.declared.limits.TheConstants.{MAX_LINES};
 ghost use Rattle.line_graph.specs.PiecesOfDrawings.{ArePiecesOf};
+ghost use Rattle.line_graph.specs.declared.limits.TheConstants.{MAX_LINES};
 ghost use Rattle.piece_stitches.specs.PieceStitches.{HasLinesOf, HasSmallLengths, HasSmallTotals, stitches_of_piece, stitches_of_pieces, total_thread, total_travel};
 ghost use Rattle.std.specs.Prelude.{◌≡◌, ◌++◌, ◌∷◌, ◌+◌, ◌<◌, ◌≤◌, ◌^◌, [], All, IfOk, OnOk, length};
 
 use crate::stitch_summary::StitchSummary;
 use crate::summing::summary_of;
 use crate::travelling::travel;
-use drawing_model::Drawing;
-use line_graph::{Piece, pieces_keep_limits};
-use lists_and_numbers::{Items, Memory};
+use design_model::{Items, Memory};
+use line_graph::{Drawing, Piece, pieces_keep_limits};
 use std::alloc::Global;
 
 /// The stitches of a piece, each line sewn once, and the travel to it from the piece before, in thousandths of a

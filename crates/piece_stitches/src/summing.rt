@@ -1,14 +1,12 @@
-ghost use Rattle.drawing_model.specs.LineNeedles.{needles_of_line};
-ghost use Rattle.drawing_model.specs.declared.limits.TheConstants.{MAX_COST, MAX_LINES};
+ghost use Rattle.line_graph.specs.LineNeedles.{needles_of_line};
+ghost use Rattle.line_graph.specs.declared.limits.TheConstants.{MAX_COST, MAX_LINES};
 ghost use Rattle.piece_stitches.specs.GrowingSummaries.{IsSummary, no_stitches, shorter, with_stitch, with_stitches};
 ghost use Rattle.piece_stitches.specs.StitchSummaries.{lengths_after, stitch_lengths, summary_of_lines};
 ghost use Rattle.std.specs.Prelude.{◌≡◌, ◌+◌, ◌*◌, ◌^◌, ◌<◌, ◌≤◌, All, IfOk, length};
 
 use crate::stitch_summary::StitchSummary;
-use design_model::Point;
-use drawing_model::{Drawing, needles};
-use lists_and_numbers::Memory;
-use picture_parts::length_between;
+use design_model::{Memory, Point, length_between};
+use line_graph::{Drawing, needles};
 use std::alloc::Global;
 
 /// Returns the summary of the stitches of lines, each sewn once.

@@ -1,10 +1,9 @@
 ghost use Rattle.line_graph.specs.PiecesOfDrawings.{graph_of};
 ghost use Rattle.piece_stitches.specs.Travels.{point_of_end, travel_between, way_between};
-ghost use Rattle.std.specs.Prelude.{◌≡◌, ◌<◌, ◌^◌, slice_get, unwrap_or};
+ghost use Rattle.std.specs.Prelude.{◌≡◌, ◌<◌, ◌^◌, unwrap_or};
 
-use design_model::Point;
+use design_model::{Point, length_between};
 use line_graph::Piece;
-use picture_parts::length_between;
 
 /// Returns the length of the straight way from the end of a piece to the start of the next, in thousandths of
 /// a millimetre.

@@ -1,11 +1,7 @@
 -- Lemmas for the crates of programs: plans that read files one after another, plans that decide, and the end of a run.
-use Rattle.std.proofs.Common.{◌≡◌, ℕ, Bool, false, List, Option, None, Some, Result, Ok, Err, ap, refl, slice_get, subst, sym, arith}
-use Rattle.program_shell.proofs.Names.{nat_tests, UnlessOutOfMemory, Files, SinkView, StoreView, Failure, Product, Status, IsExact, IsSoundProgram, IsInputContent, Makes, Plan, accepts, reads, refuses, satisfies, ProductValue, output_names, Program, RunEnds, Views, views_of, FinishesRun, RunsRequest, IsSpecified, CanFinish, IsFaultFailure, IsParsedInput, LoadsFound, ParsesInput, ReadsInput, RunsPlan, RunsPurePlan}
-use Rattle.format_traits.specs.Meanings.{Meaning}
-use Rattle.format_traits.specs.declared.fault.ReadFault.{ReadFault}
-use Rattle.format_traits.specs.declared.loaded.Loaded.{Loaded}
+use Rattle.std.proofs.Common.{◌≡◌, ℕ, Bool, false, List, Option, Result, Ok, Err, ap, refl, subst, sym, arith}
+use Rattle.program_shell.proofs.Names.{nat_tests, UnlessOutOfMemory, Files, SinkView, StoreView, Failure, Product, Status, IsExact, IsSoundProgram, IsInputContent, Makes, Plan, accepts, reads, refuses, satisfies, ProductValue, output_names, Program, RunEnds, Views, views_of, FinishesRun, RunsRequest, IsSpecified, CanFinish, IsFaultFailure, IsParsedInput, ParsesInput, ReadsInput, RunsPlan, RunsPurePlan}
 use Rattle.program_shell.specs.declared.failure.Failure.TheVariants as failure
-use Rattle.program_shell.specs.declared.format_indexes.Found.{Found}
 use Rattle.program_shell.proofs.RunLemmas.{run_ends}
 use Rattle.program_shell.proofs.RunOutcomes.{finished}
 
@@ -36,17 +32,6 @@ pub settles_taken : {V F : Type 0} (name : List ℕ) (says : List ℕ → Result
     → RunsPurePlan (next (Ok value)) result → RunsPlan (reads name (λ bytes. next (says bytes))) store store' result
 settles_taken name says next store store' value result input settles =
     takes_next name says next store store' store' value result input (record { is = settles.at store' })
-
--- A request for a plan that reads one file, by the format of its name, and then no other.
-pub settles_found : {Order : Type 0} (program : Program Order) (request : Option Meaning → Option Order) (name : List ℕ)
-    (next : Meaning → Result Loaded ReadFault → Plan) (formats : List Meaning) (known : Option Meaning) (store store' : StoreView)
-    (found : Found) (result : Result Product Failure) → LoadsFound formats known name store store' (Ok found)
-    → ((m : Meaning) → RunsPlan (reads name (λ bytes. next m (m.reads bytes))) store store' result → RunsRequest program (request (Some m))
-    store store' result) → ((m : Meaning) → slice_get formats found.place ≡ Some m → RunsPurePlan (next m (Ok found.loaded)) result)
-    → RunsRequest program (request known) store store' result
-settles_found program request name next formats None store store' found result loads runs settles = absurd (let no : ⊥ = cc in no)
-settles_found program request name next formats (Some m) store store' found result (input, at) runs settles =
-    runs m (settles_taken name m.reads (next m) store store' found.loaded result input (settles m at))
 
 -- A fault that is reported is the specified one, unless it is out of memory.
 pub fault_found : {V F : Type 0} (is_memory : F → Bool) (said : Result V F) (fault : F) → IsSpecified is_memory said (Err fault)

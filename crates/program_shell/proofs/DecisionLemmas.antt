@@ -1,7 +1,7 @@
 -- If no fault is counted, the arguments and the files determine the status.
 use Rattle.std.proofs.Common.{◌≡◌, ℕ, Bool, true, false, ◌≤◌, inl, inr, List, Option, Some, None, IsSome, length, ap, refl, string_bytes, subst, arith}
 use Rattle.program_shell.proofs.Names.{nat_tests, UnlessOutOfMemory, Files, FileHolds, Failure, Status, IsInputContent, Makes, LacksInput, Plan, accepts, satisfies, reads, refuses, ProductValue, Program, IsFaultlessRun, Views, IsDecided, ReportsFailure, all, but_report, up_to, IsFailureOf, status_of, IsExact, IsFileLonger, LacksFile, AttemptsRead, IsAccepted, IsInputTooLong, Refuses, IsRequested, IsOrOutOfMemory, status_is_out_of_memory}
-use Rattle.lists_and_numbers.specs.declared.limits.TheConstants.{MAX_FILE}
+use Rattle.design_model.specs.declared.limits.TheConstants.{MAX_FILE}
 use Rattle.program_shell.specs.declared.failure.Failure.TheVariants as failure
 use Rattle.program_shell.specs.declared.status.Status.TheVariants as status
 use Rattle.program_shell.proofs.RunOutcomes.{IsPlanOutcome, IsRunOutcome, halted, made}

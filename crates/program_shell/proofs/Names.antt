@@ -2,7 +2,7 @@
 pub use Rattle.std.proofs.lemmas.Bool.Decides.{nat_tests}
 pub use Rattle.std.proofs.lemmas.List.{at_drop_more, drop_all, take-append-drop}
 pub use Rattle.std.specs.List.{concat}
-pub use Rattle.lists_and_numbers.specs.OutOfMemory.{IsSpecified, UnlessOutOfMemory}
+pub use Rattle.design_model.specs.OutOfMemory.{IsSpecified, UnlessOutOfMemory}
 pub use Rattle.outside_io.specs.Blames.{Blame, read_call, write_call}
 pub use Rattle.outside_io.specs.Causes.{CallFailed, HasNoNewFault, IsFileLonger, with_bytes_taken}
 pub use Rattle.outside_io.specs.Counts.{Rose}
@@ -21,10 +21,10 @@ pub use Rattle.program_shell.specs.Puts.{PutFailed, Puts, ReportsLineWithStatus,
 pub use Rattle.program_shell.specs.RunFailures.{IsMissingInput, IsOutsideFailure, IsPrintFailure, IsReadFailure, IsWriteFailure, missing}
 pub use Rattle.program_shell.specs.RunFailures.{not_read, not_written, unprinted}
 pub use Rattle.program_shell.specs.RunViews.{IsFaultlessRun, IsUntouched, Views, views_of}
-pub use Rattle.program_shell.specs.Runs.{IsDecided, IsDone, IsFailed, IsFault, IsMemory, IsOrOutOfMemory, IsPlannedOutcome, IsRefused}
-pub use Rattle.program_shell.specs.Runs.{IsReportLost, IsRequested, IsUsage, KeepsOtherFiles, RunEnds, failed, memory, refused}
-pub use Rattle.program_shell.specs.Runs.{status_is_out_of_memory, usage}
-pub use Rattle.program_shell.specs.StepOutcomes.{CanFinish, IsFailureOf, IsFaultFailure, IsParsedInput, IsPlanResult, LoadsFound}
+pub use Rattle.program_shell.specs.ProgramRuns.{IsDecided, IsDone, IsFailed, IsFault, IsMemory, IsOrOutOfMemory, IsPlannedOutcome, IsRefused}
+pub use Rattle.program_shell.specs.ProgramRuns.{IsReportLost, IsRequested, IsUsage, KeepsOtherFiles, RunEnds, failed, memory, refused}
+pub use Rattle.program_shell.specs.ProgramRuns.{status_is_out_of_memory, usage}
+pub use Rattle.program_shell.specs.StepOutcomes.{CanFinish, IsFailureOf, IsFaultFailure, IsParsedInput, IsPlanResult}
 pub use Rattle.program_shell.specs.StepOutcomes.{ParsesInput, ReadsInput, RunsPlan, RunsPurePlan, RunsRequest, status_of}
 pub use Rattle.program_shell.specs.declared.failure.Failure.{Failure}
 pub use Rattle.program_shell.specs.declared.product.Product.{Product}

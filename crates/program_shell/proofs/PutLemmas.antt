@@ -53,40 +53,40 @@ broke_of before after bytes (count, taken) rose = record {
   rose = rose;
 }
 
--- Some pieces of a text were put: the entire text is put once the remaining pieces are, and fails if one of them does.
+-- Some parts of a text were put: the entire text is put once the remaining parts are, and fails if one of them does.
 pub record PutsOn (whole left : List ℕ) (before now : SinkView) : Type 0 where
   pub ok : (after : SinkView) → after ≡ with_bytes_put now left → after ≡ with_bytes_put before whole
   pub err : (after : SinkView) → PutFailed now after left → PutFailed before after whole
 
-pub puts_on : (whole left piece rest : List ℕ) (before now next : SinkView) → PutsOn whole left before now
-    → left ≡ piece ++ rest → next ≡ with_bytes_put now piece → PutsOn whole rest before next
-puts_on whole left piece rest before now next on is taken = record {
+pub puts_on : (whole left part rest : List ℕ) (before now next : SinkView) → PutsOn whole left before now
+    → left ≡ part ++ rest → next ≡ with_bytes_put now part → PutsOn whole rest before next
+puts_on whole left part rest before now next on is taken = record {
   ok = λ after more. on.ok after (subst (λ (xs : List ℕ). after ≡ with_bytes_put now xs) (sym is)
-      (with_bytes_put-append now next after piece rest taken more));
+      (with_bytes_put-append now next after part rest taken more));
   err = λ after broke. on.err after (subst (λ (xs : List ℕ). PutFailed now after xs) (sym is)
-      (broke-after now next after piece rest taken broke));
+      (broke-after now next after part rest taken broke));
 }
 
-pub puts_broke : (whole left piece rest : List ℕ) (before now next : SinkView) → PutsOn whole left before now
-    → left ≡ piece ++ rest → PutFailed now next piece → PutFailed before next whole
-puts_broke whole left piece rest before now next on is broke =
-    on.err next (subst (λ (xs : List ℕ). PutFailed now next xs) (sym is) (broke-more now next piece rest broke))
+pub puts_broke : (whole left part rest : List ℕ) (before now next : SinkView) → PutsOn whole left before now
+    → left ≡ part ++ rest → PutFailed now next part → PutFailed before next whole
+puts_broke whole left part rest before now next on is broke =
+    on.err next (subst (λ (xs : List ℕ). PutFailed now next xs) (sym is) (broke-more now next part rest broke))
 
--- a piece is gathered, and then what is left is
-pub gathers_on : (whole left piece rest line next_line first : List ℕ) (before now next : SinkView) → PutsOn whole (line ++ left) before now
-    → left ≡ piece ++ rest → first ++ next_line ≡ line ++ piece → next ≡ with_bytes_put now first
+-- a part is gathered, and then what is left is
+pub gathers_on : (whole left part rest line next_line first : List ℕ) (before now next : SinkView) → PutsOn whole (line ++ left) before now
+    → left ≡ part ++ rest → first ++ next_line ≡ line ++ part → next ≡ with_bytes_put now first
     → PutsOn whole (next_line ++ rest) before next
-gathers_on whole left piece rest line next_line first before now next on is parts taken =
+gathers_on whole left part rest line next_line first before now next on is parts taken =
     puts_on whole (line ++ left) first (next_line ++ rest) before now next on
-    (ap (λ (xs : List ℕ). line ++ xs) is ∙ (sym (append_assoc line piece rest)
+    (ap (λ (xs : List ℕ). line ++ xs) is ∙ (sym (append_assoc line part rest)
     ∙ (ap (λ (xs : List ℕ). xs ++ rest) (sym parts) ∙ append_assoc first next_line rest))) taken
 
--- a put failed while a piece was gathered
-pub gathers_broke : (whole left piece rest line : List ℕ) (before now next : SinkView) → PutsOn whole (line ++ left) before now
-    → left ≡ piece ++ rest → PutFailed now next (line ++ piece) → PutFailed before next whole
-gathers_broke whole left piece rest line before now next on is broke =
-    puts_broke whole (line ++ left) (line ++ piece) rest before now next on
-    (ap (λ (xs : List ℕ). line ++ xs) is ∙ sym (append_assoc line piece rest)) broke
+-- a put failed while a part was gathered
+pub gathers_broke : (whole left part rest line : List ℕ) (before now next : SinkView) → PutsOn whole (line ++ left) before now
+    → left ≡ part ++ rest → PutFailed now next (line ++ part) → PutFailed before next whole
+gathers_broke whole left part rest line before now next on is broke =
+    puts_broke whole (line ++ left) (line ++ part) rest before now next on
+    (ap (λ (xs : List ℕ). line ++ xs) is ∙ sym (append_assoc line part rest)) broke
 
 -- the last line is put
 pub gathers_all : {T : Type 0} (whole left line text : List ℕ) (before now after : SinkView) (result : Result T Failed)
@@ -108,28 +108,28 @@ pub puts_err : {T : Type 0} (bytes : List ℕ) (before after : SinkView) (fault 
 puts_err bytes before after fault (Ok _) never broke = absurd never
 puts_err bytes before after fault (Err _) is broke = record { ok = tt; err = broke }
 
--- The line could not be put: then the piece was not put.
-pub gather_broke : {T : Type 0} (text line piece new_line : List ℕ) (before after : SinkView) (fault : Failed) (result : Result T Failed)
+-- The line could not be put: then the part was not put.
+pub gather_broke : {T : Type 0} (text line part new_line : List ℕ) (before after : SinkView) (fault : Failed) (result : Result T Failed)
     → IsErrAnd result (λ (f : Failed). f ≡ fault) → text ≡ line → PutFailed before after text
-    → Gathers (line ++ piece) new_line before after result
-gather_broke text line piece new_line before after fault (Ok _) never same broke = absurd never
-gather_broke text line piece new_line before after fault (Err _) is same broke = record {
+    → Gathers (line ++ part) new_line before after result
+gather_broke text line part new_line before after fault (Ok _) never same broke = absurd never
+gather_broke text line part new_line before after fault (Err _) is same broke = record {
   ok = tt;
-  err = broke-more before after line piece (subst (λ (xs : List ℕ). PutFailed before after xs) same broke);
+  err = broke-more before after line part (subst (λ (xs : List ℕ). PutFailed before after xs) same broke);
 }
 
--- the line is put, and then the piece
-pub gather_put : {T : Type 0} (text line piece new_line : List ℕ) (before mid after : SinkView) (result : Result T Failed) → text ≡ line
-    → new_line ≡ [] → mid ≡ with_bytes_put before text → Puts piece mid after result → Gathers (line ++ piece) new_line before after result
-gather_put text line piece new_line before mid after (Ok _) is none taken puts = record {
+-- the line is put, and then the part
+pub gather_put : {T : Type 0} (text line part new_line : List ℕ) (before mid after : SinkView) (result : Result T Failed) → text ≡ line
+    → new_line ≡ [] → mid ≡ with_bytes_put before text → Puts part mid after result → Gathers (line ++ part) new_line before after result
+gather_put text line part new_line before mid after (Ok _) is none taken puts = record {
   ok = (
-    line ++ piece,
-    ap (λ (xs : List ℕ). (line ++ piece) ++ xs) none ∙ append-nil (line ++ piece),
-    with_bytes_put-append before mid after line piece (subst (λ (xs : List ℕ). mid ≡ with_bytes_put before xs) is taken) puts.ok,
+    line ++ part,
+    ap (λ (xs : List ℕ). (line ++ part) ++ xs) none ∙ append-nil (line ++ part),
+    with_bytes_put-append before mid after line part (subst (λ (xs : List ℕ). mid ≡ with_bytes_put before xs) is taken) puts.ok,
   );
   err = tt;
 }
-gather_put text line piece new_line before mid after (Err _) is none taken puts = record {
+gather_put text line part new_line before mid after (Err _) is none taken puts = record {
   ok = tt;
-  err = broke-after before mid after line piece (subst (λ (xs : List ℕ). mid ≡ with_bytes_put before xs) is taken) puts.err;
+  err = broke-after before mid after line part (subst (λ (xs : List ℕ). mid ≡ with_bytes_put before xs) is taken) puts.err;
 }

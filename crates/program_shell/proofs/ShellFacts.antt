@@ -3,7 +3,7 @@ use Rattle.std.proofs.Common.{◌≡◌, ◌++◌, refl}
 use Rattle.std.specs.Fmt.{digits}
 use Rattle.std.specs.Prelude.{codes}
 use Rattle.program_shell.proofs.Names.{cannot_print_line, cannot_read_line, cannot_write_line, message_line, out_of_memory_line}
-use Rattle.lists_and_numbers.specs.TextLines.{newline}
+use Rattle.design_model.specs.TextLines.{newline}
 use Rattle.format_traits.specs.declared.fault.ReadFault.TheVariants as read
 use Rattle.program_shell.specs.FileTexts.{read_fault_text, too_long_text}
 

@@ -6,8 +6,8 @@ pub mod Plans
 pub mod Programs
 pub mod RunViews
 pub mod RunFailures
--- Read Runs first: what each exit status guarantees.
-pub mod Runs
+-- Read ProgramRuns first: what each exit status guarantees.
+pub mod ProgramRuns
 pub mod StepOutcomes
 pub mod FinishedRuns
 pub mod ExactPlans

@@ -1,6 +1,6 @@
 -- The lines that a program reports on the standard error. Each begins with the name of the program.
 use Rattle.std.specs.Prelude.{ℕ, List, ◌++◌, codes}
-use Rattle.lists_and_numbers.specs.TextLines.{newline}
+use Rattle.design_model.specs.TextLines.{newline}
 
 -- The line of a program with that text.
 abbrev pub message_line : (program text : List ℕ) → List ℕ

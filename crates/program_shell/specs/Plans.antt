@@ -3,7 +3,7 @@
 use Rattle.std.specs.Prelude.{◌≡◌, ◌⊎◌, ℕ, ◌≤◌, List, length, Option, Result, Ok, Err}
 use Rattle.outside_io.specs.Causes.{IsFileLonger}
 use Rattle.outside_io.specs.Files.{Files, FileHolds, LacksFile, WhereVisible}
-use Rattle.lists_and_numbers.specs.declared.limits.TheConstants.{MAX_FILE}
+use Rattle.design_model.specs.declared.limits.TheConstants.{MAX_FILE}
 use Rattle.program_shell.specs.Products.{ProductValue}
 use Rattle.program_shell.specs.FileTexts.{too_long_text}
 

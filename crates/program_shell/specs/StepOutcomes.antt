@@ -1,17 +1,15 @@
 -- The outcomes of the steps of a run: reading an input, and running a plan.
-use Rattle.std.specs.Prelude.{◌≡◌, ◌⊎◌, ℕ, Bool, false, List, Option, Some, None, Result, Ok, Err, slice_get, string_bytes}
-use Rattle.format_traits.specs.Meanings.{Meaning}
+use Rattle.std.specs.Prelude.{◌≡◌, ◌⊎◌, ℕ, Bool, false, List, Option, Some, None, Result, Ok, Err, string_bytes}
 use Rattle.outside_io.specs.Blames.{read_call}
 use Rattle.outside_io.specs.Causes.{CallFailed}
 use Rattle.outside_io.specs.Files.{LacksFile}
 use Rattle.outside_io.specs.Views.{StoreView}
 use Rattle.program_shell.specs.declared.failure.Failure.{Failure}
 use Rattle.program_shell.specs.declared.failure.Failure.TheVariants as failure
-use Rattle.program_shell.specs.declared.format_indexes.Found.{Found}
 use Rattle.program_shell.specs.declared.product.Product.{Product}
 use Rattle.program_shell.specs.declared.status.Status.{Status}
 use Rattle.program_shell.specs.declared.status.Status.TheVariants as status
-use Rattle.program_shell.specs.FileTexts.{read_fault_text, too_long_text}
+use Rattle.program_shell.specs.FileTexts.{too_long_text}
 use Rattle.program_shell.specs.Plans.{AttemptsRead, IsInputContent, IsInputTooLong, Makes, LacksInput, Plan, Refuses}
 use Rattle.program_shell.specs.Products.{HaveDistinctNames, HaveFileNames, ProductValue, product_value}
 use Rattle.program_shell.specs.Programs.{Program}
@@ -123,15 +121,3 @@ ParsesInput says text_of name store store' (Err (failure.Refused text)) =
     ReadsInput name store store' (Err (failure.Refused text))
     ⊎ IsRefusedInput says text_of name store store' (string_bytes text)
 ParsesInput says text_of name store store' (Err failure.Memory) = store' ≡ store
-
--- The result of reading and decoding an input file by the format of its name: a failure where the
--- name has no format, else as the format reads it.
-abbrev pub LoadsFound : List Meaning → Option Meaning → List ℕ → StoreView → StoreView
-    → Result Found Failure → Type 0
-LoadsFound formats None name store store' result = (result ≡ Err failure.BadArguments)
-    × (store' ≡ store)
-LoadsFound formats (Some m) name store store' (Ok found) =
-    IsParsedInput m.reads name store store' (Ok found.loaded)
-    × (slice_get formats found.place ≡ Some m)
-LoadsFound formats (Some m) name store store' (Err why) =
-    ParsesInput m.reads (read_fault_text name) name store store' (Err why)

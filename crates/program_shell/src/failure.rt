@@ -2,7 +2,7 @@ ghost use Rattle.program_shell.specs.StepOutcomes.{IsRefusalWith};
 ghost use Rattle.program_shell.specs.declared.failure.Failure.TheVariants as failure;
 ghost use Rattle.std.specs.Prelude.{◌≡◌, IfOk, List, string_bytes, ℕ};
 
-use lists_and_numbers::Memory;
+use design_model::Memory;
 
 /// Why an order made no product.
 #[derive(Drop)]

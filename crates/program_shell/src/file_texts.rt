@@ -3,8 +3,8 @@ ghost use Rattle.program_shell.specs.StepOutcomes.{IsRefusalWith};
 ghost use Rattle.std.specs.Prelude.{◌≡◌, IfOk, codes, string_bytes};
 
 use crate::failure::{Failure, refused};
+use design_model::Memory;
 use format_traits::ReadFault;
-use lists_and_numbers::Memory;
 use std::alloc::Global;
 
 /// Returns a text about a file.

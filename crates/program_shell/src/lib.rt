@@ -1,24 +1,19 @@
-//! What all programs have in common: exit statuses, the reading of inputs, the writing of outputs, and the
-//! lines about what failed.
+//! What all programs have in common: exit statuses, failures, the writing of outputs, and the lines about what failed.
 #![tactic(auto)]
 
 mod delivery;
 mod failure;
 mod file_texts;
 mod finishing;
-mod format_indexes;
 mod messages;
 mod product;
 mod putting;
-mod reading;
 mod starting;
 mod status;
 
 pub use failure::{Failure, Step, refused};
 pub use file_texts::{describe_file, describe_part, describe_read_fault, refused_part};
 pub use finishing::finish;
-pub use format_indexes::{Found, format_at, load_at, load_found};
 pub use product::{Made, Output, Product, bytes_of, one_output, only_report, two_outputs};
-pub use reading::read_input;
 pub use starting::start;
 pub use status::Status;

@@ -65,8 +65,8 @@ fn report_line<E: Sink>(err: &mut E, program: &[u8], text: &[u8], planned: Statu
     ensures { ReportsLineWithStatus (message_line program.now text.now) planned (E.view err.old)
         (E.view err.new) result }
 {
-    let pieces: [&[u8]; 4] = [program, b": ", text, b"\n"];
-    report_text(err, &pieces, planned)
+    let parts: [&[u8]; 4] = [program, b": ", text, b"\n"];
+    report_text(err, &parts, planned)
 }
 
 /// Reports the fault of a file, by a text that ends with its name.
@@ -74,6 +74,6 @@ fn report_name<E: Sink>(err: &mut E, program: &[u8], text: &[u8], name: &str) ->
     ensures { ReportsLineWithStatus (named_line program.now text.now name.now) status.Fault (E.view err.old)
         (E.view err.new) result }
 {
-    let pieces: [&[u8]; 5] = [program, b": ", text, name.as_bytes(), b"\n"];
-    report_text(err, &pieces, Status::Fault)
+    let parts: [&[u8]; 5] = [program, b": ", text, name.as_bytes(), b"\n"];
+    report_text(err, &parts, Status::Fault)
 }

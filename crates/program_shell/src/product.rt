@@ -1,8 +1,8 @@
 ghost use Rattle.program_shell.specs.Products.{one_file_product, report_product, product_value, two_file_product, output_value};
-ghost use Rattle.std.specs.Prelude.{◌≡◌, ◌∷◌, [], IfOk};
+ghost use Rattle.std.specs.Prelude.{◌≡◌, IfOk};
 
 use crate::failure::Step;
-use lists_and_numbers::{Bytes, Items, Memory};
+use design_model::{Bytes, Items, Memory};
 use std::alloc::Global;
 
 /// A file that a command writes: its name, and its content.

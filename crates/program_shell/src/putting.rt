@@ -19,45 +19,45 @@ pub fn put_one<E: Sink>(err: &mut E, text: &[u8]) -> Result<(), Failed>
     Ok(())
 }
 
-/// Puts the pieces of a text, in one put if they fit into the line buffer.
-fn put_all<E: Sink>(err: &mut E, pieces: &[&[u8]]) -> Result<(), Failed>
-    ensures { Puts (concat (map (λ piece. piece.now) pieces.now)) (E.view err.old)
+/// Puts the parts of a text, in one put if they fit into the line buffer.
+fn put_all<E: Sink>(err: &mut E, parts: &[&[u8]]) -> Result<(), Failed>
+    ensures { Puts (concat (map (λ part. part.now) parts.now)) (E.view err.old)
         (E.view err.new) result }
 {
     let mut line = ArrayVec::new();
-    for piece in pieces {
-        gather(err, &mut line, piece)?;
+    for part in parts {
+        gather(err, &mut line, part)?;
     }
     put_one(err, line.as_slice())
 }
 
-/// Appends a piece to the line buffer. If it does not fit, puts the buffer, and then the piece.
-fn gather<E: Sink>(err: &mut E, line: &mut Line, piece: &[u8]) -> Result<(), Failed>
-    ensures { Gathers (line.old.items ++ piece.now) line.new.items (E.view err.old)
+/// Appends a part to the line buffer. If it does not fit, puts the buffer, and then the part.
+fn gather<E: Sink>(err: &mut E, line: &mut Line, part: &[u8]) -> Result<(), Failed>
+    ensures { Gathers (line.old.items ++ part.now) line.new.items (E.view err.old)
         (E.view err.new) result }
 {
-    match line.try_extend_from_slice(piece) {
+    match line.try_extend_from_slice(part) {
         Ok(()) => Ok(()),
-        Err(_) => put_both(err, line, piece),
+        Err(_) => put_both(err, line, part),
     }
 }
 
-/// Puts the line buffer and then a piece, and empties the buffer.
-fn put_both<E: Sink>(err: &mut E, line: &mut Line, piece: &[u8]) -> Result<(), Failed>
-    ensures { Gathers (line.old.items ++ piece.now) line.new.items (E.view err.old)
+/// Puts the line buffer and then a part, and empties the buffer.
+fn put_both<E: Sink>(err: &mut E, line: &mut Line, part: &[u8]) -> Result<(), Failed>
+    ensures { Gathers (line.old.items ++ part.now) line.new.items (E.view err.old)
         (E.view err.new) result }
 {
     put_one(err, line.as_slice())?;
     line.clear();
-    put_one(err, piece)
+    put_one(err, part)
 }
 
-/// Puts the pieces of a text, and returns the planned status, or `Fault` if a put failed.
-pub(crate) fn report_text<E: Sink>(err: &mut E, pieces: &[&[u8]], planned: Status) -> Status
-    ensures { ReportsLineWithStatus (concat (map (λ piece. piece.now) pieces.now)) planned
+/// Puts the parts of a text, and returns the planned status, or `Fault` if a put failed.
+pub(crate) fn report_text<E: Sink>(err: &mut E, parts: &[&[u8]], planned: Status) -> Status
+    ensures { ReportsLineWithStatus (concat (map (λ part. part.now) parts.now)) planned
         (E.view err.old) (E.view err.new) result }
 {
-    let put = put_all(err, pieces);
+    let put = put_all(err, parts);
     reported(put, planned)
 }
 

@@ -20,8 +20,8 @@ where
 {
     let alloc = rt.alloc();
     let mut store = DirStore::new(alloc, rt);
-    let mut out = StdSink::new(rt.stdout());
-    let mut err = StdSink::new(rt.stderr());
+    let mut out = StdSink::out(rt);
+    let mut err = StdSink::err(rt);
     let done = program_words(rt).and_then(|words| run(
         alloc, &words, &mut store, &mut out, &mut err,
     ));

@@ -2,9 +2,9 @@
 use Rattle.std.proofs.Common.{◌≡◌, ◌++◌, refl}
 use Rattle.std.specs.Fmt.{digits}
 use Rattle.std.specs.Prelude.{codes}
-use Rattle.lists_and_numbers.specs.TextLines.{newline}
+use Rattle.design_model.specs.TextLines.{newline}
 use Rattle.format_traits.specs.declared.fault.WriteFault.TheVariants as write
-use Rattle.drawing_model.specs.declared.draw_kind.DrawKind.TheVariants as kind
+use Rattle.line_graph.specs.declared.draw_kind.DrawKind.TheVariants as kind
 use Rattle.stitch_trace.specs.declared.trace_fault.TraceFault.TheVariants as trace
 use Rattle.program_texts.specs.DesignTexts.{no_colour_place_text, too_large_text, write_fault_text}
 use Rattle.program_texts.specs.DrawingTexts.{draw_fault_text, draw_kind_text, step_limit_text, trace_fault_text}

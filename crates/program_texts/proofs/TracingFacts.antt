@@ -3,8 +3,8 @@ use Rattle.std.proofs.Common.{◌≡◌, ℤ, pos, [], ◌∷◌, ◌++◌, refl
 use Rattle.std.specs.Fmt.{digits}
 use Rattle.std.specs.Prelude.{codes}
 use Rattle.design_model.specs.declared.point.Point.{Point}
-use Rattle.drawing_model.specs.Drawings.{DrawingValue}
-use Rattle.lists_and_numbers.specs.TextLines.{newline}
+use Rattle.line_graph.specs.Drawings.{DrawingValue}
+use Rattle.design_model.specs.TextLines.{newline}
 use Rattle.program_texts.specs.TracingReports.{traced_line, tracing_report}
 
 pub known_line : traced_line 2 30 405 ≡ codes "blocks 2 lines 30 links 405" ++ newline

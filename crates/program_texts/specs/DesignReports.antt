@@ -9,7 +9,7 @@ use Rattle.design_model.specs.Counts.{counts_of}
 use Rattle.design_model.specs.Designs.{DesignValue, thread_of}
 use Rattle.design_model.specs.Extents.{extent_of}
 use Rattle.format_traits.specs.declared.loaded.Loaded.{Loaded}
-use Rattle.lists_and_numbers.specs.TextLines.{newline}
+use Rattle.design_model.specs.TextLines.{newline}
 
 -- A label and a number.
 abbrev pub labelled_number : List ℕ → ℕ → List ℕ

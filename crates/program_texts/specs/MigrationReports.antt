@@ -1,6 +1,6 @@
 -- The report of `migrate`.
 use Rattle.std.specs.Prelude.{ℕ, List, ◌++◌, codes, decimal}
-use Rattle.lists_and_numbers.specs.TextLines.{newline}
+use Rattle.design_model.specs.TextLines.{newline}
 
 -- The report of a migration: the number of lines, the number of pieces, and the cost in steps.
 abbrev pub migrate_report : (lines pieces cost : ℕ) → List ℕ

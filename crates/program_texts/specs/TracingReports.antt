@@ -1,8 +1,8 @@
 -- The report of a tracing.
 use Rattle.std.specs.Prelude.{ℕ, List, ◌++◌, codes, decimal, length, sum_by}
 use Rattle.line_sections.specs.Sections.{segments_of}
-use Rattle.drawing_model.specs.Drawings.{DrawingValue}
-use Rattle.lists_and_numbers.specs.TextLines.{newline}
+use Rattle.line_graph.specs.Drawings.{DrawingValue}
+use Rattle.design_model.specs.TextLines.{newline}
 
 -- The line of a tracing: the number of blocks, of lines and of links.
 abbrev pub traced_line : (blocks lines links : ℕ) → List ℕ

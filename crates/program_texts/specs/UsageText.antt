@@ -1,6 +1,6 @@
 -- The usage text.
 use Rattle.std.specs.Prelude.{ℕ, List, ◌++◌, codes}
-use Rattle.lists_and_numbers.specs.TextLines.{newline}
+use Rattle.design_model.specs.TextLines.{newline}
 
 -- The usage text: the commands and their arguments.
 abbrev pub usage_text : List ℕ

@@ -2,9 +2,10 @@ ghost use Rattle.design_model.specs.declared.design.TheConstants.{MAX_COMMANDS};
 ghost use Rattle.program_texts.specs.DesignReports.{written_report, block_report_line, block_lines, count_lines, ended_line, extent_line, labelled_number_line, labelled_number, coordinates_text, show_report, title_lines};
 ghost use Rattle.std.specs.Prelude.{◌≡◌, ◌++◌, ◌+◌, ◌≤◌, IfOk, OnOk, length};
 
-use design_model::{Counts, Design, Extent, Point, block_counts, counts, extent};
+use design_model::{
+    Bytes, Counts, Design, Extent, Memory, Point, block_counts, counts, extent, put_decimal,
+};
 use format_traits::Loaded;
-use lists_and_numbers::{Bytes, Memory, put_decimal};
 use std::alloc::Global;
 
 // A function of its own: inlined in a program's large function, its loops over commands would keep their counts in
@@ -12,7 +13,7 @@ use std::alloc::Global;
 /// Returns the report on a file of the format with that ending: its label, counts, extent, whether it has an
 /// end, and its blocks.
 #[inline(never)]
-pub fn print_loaded(alloc: Global, ending: &str, loaded: &Loaded) -> Result<Bytes, Memory>
+pub fn describe_loaded(alloc: Global, ending: &str, loaded: &Loaded) -> Result<Bytes, Memory>
     ensures { IfOk result (λ text. text ≡ show_report ending.now loaded.now) }
 {
     let design = &loaded.design;
@@ -27,7 +28,7 @@ pub fn print_loaded(alloc: Global, ending: &str, loaded: &Loaded) -> Result<Byte
 }
 
 /// Returns the report on a design that was written.
-pub fn print_written(alloc: Global, counts: Counts) -> Result<Bytes, Memory>
+pub fn describe_written(alloc: Global, counts: Counts) -> Result<Bytes, Memory>
     ensures { IfOk result (λ text. text ≡ written_report counts) }
 {
     let mut text = Bytes::new(alloc);

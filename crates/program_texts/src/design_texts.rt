@@ -1,8 +1,8 @@
 ghost use Rattle.program_texts.specs.DesignTexts.{command_text, long_stitch_text, no_colour_place_text, too_large_text, write_fault_text};
 ghost use Rattle.std.specs.Prelude.{◌≡◌, IfOk, string_bytes};
 
+use design_model::Memory;
 use format_traits::WriteFault;
-use lists_and_numbers::Memory;
 use program_shell::{describe_file, describe_part};
 use std::alloc::Global;
 

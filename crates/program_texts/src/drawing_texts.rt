@@ -3,9 +3,9 @@ ghost use Rattle.program_texts.specs.DrawingTexts.{draw_fault_text, draw_kind_te
 ghost use Rattle.std.specs.Prelude.{◌≡◌, IfOk, string_bytes};
 
 use crate::design_texts::describe_command;
-use drawing_model::DrawKind;
+use design_model::Memory;
 use drawing_text::DrawFault;
-use lists_and_numbers::Memory;
+use line_graph::DrawKind;
 use program_shell::{describe_file, describe_part};
 use std::alloc::Global;
 use stitch_trace::TraceFault;

@@ -9,13 +9,13 @@ mod migration_reports;
 mod tracing_reports;
 mod usage_text;
 
-pub use design_reports::{print_loaded, print_written};
+pub use design_reports::{describe_loaded, describe_written};
 pub use design_texts::{
     describe_command, describe_no_place, describe_too_large, describe_write_fault,
 };
 pub use drawing_texts::{
     describe_draw_fault, describe_kind, describe_step, describe_trace_fault, kind_text,
 };
-pub use migration_reports::print_migration;
-pub use tracing_reports::print_tracing;
+pub use migration_reports::describe_migration;
+pub use tracing_reports::describe_tracing;
 pub use usage_text::{USAGE, usage};

@@ -2,15 +2,14 @@ ghost use Rattle.line_sections.specs.Sections.{segments_of};
 ghost use Rattle.program_texts.specs.TracingReports.{segment_count, tracing_report};
 ghost use Rattle.std.specs.Prelude.{◌≡◌, ◌≤◌, IfOk, length};
 
-use design_model::Point;
-use drawing_model::Drawing;
-use lists_and_numbers::{Bytes, Memory};
+use design_model::{Bytes, Memory, Point};
+use line_graph::Drawing;
 use program_shell::bytes_of;
 use std::alloc::Global;
 
 /// Returns the report of a tracing: the number of blocks and lines of its drawing, and of links, each a
 /// segment of a line.
-pub fn print_tracing(alloc: Global, drawing: &Drawing) -> Result<Bytes, Memory>
+pub fn describe_tracing(alloc: Global, drawing: &Drawing) -> Result<Bytes, Memory>
     ensures { IfOk result (λ text. text ≡ tracing_report drawing.now) }
 {
     let (blocks, lines) = (drawing.block_count(), drawing.line_count());

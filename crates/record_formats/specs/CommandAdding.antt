@@ -6,7 +6,7 @@ use Rattle.design_model.specs.declared.design.TheConstants.{MAX_COMMANDS}
 use Rattle.design_model.specs.Commands.{is_command_in_range}
 use Rattle.design_model.specs.Designs.{DesignValue}
 use Rattle.design_model.specs.LongerDesigns.{with_commands}
-use Rattle.lists_and_numbers.specs.OutOfMemory.{UnlessOutOfMemory}
+use Rattle.design_model.specs.OutOfMemory.{UnlessOutOfMemory}
 use Rattle.format_traits.specs.declared.fault.ReadFault.{ReadFault}
 use Rattle.format_traits.specs.Faults.{read_is_out_of_memory}
 use Rattle.record_formats.specs.Readings.{FileCommands, checked_commands}

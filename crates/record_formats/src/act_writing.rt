@@ -11,11 +11,10 @@ ghost use Rattle.std.specs.Prelude.{◌≡◌, ◌<◌, ◌≤◌, ◌*◌, ◌+
 
 use crate::move_parts::{MAX_HOPS, part_move};
 use crate::record_writer::RecordWriter;
-use design_model::{Act, Command, MAX_COMMANDS, Point};
+use design_model::{Act, Bytes, Command, MAX_COMMANDS, Memory, Point};
 use format_traits::{
     ActWriter, EncoderState, MAX_MOVE, WriteFault, WriteLimits, hops, move_between, put_each_act,
 };
-use lists_and_numbers::{Bytes, Memory};
 
 /// The writer of acts as records.
 #[derive(Drop)]

@@ -33,7 +33,7 @@ pub(crate) fn keep_event(
     match event {
         Event::Stitch(_) => keep_here(design, at, place, event),
         Event::Jump(_) => keep_here(design, at, place, event),
-        _ => keep_cut_copied(design, at, place, event),
+        _ => keep_thread_end_copied(design, at, place, event),
     }
 }
 
@@ -47,7 +47,7 @@ struct EventAt {
 /// Adds the commands of an event that trims or stops, from a copy of it, and returns the position after it. A
 /// reference to the event would keep it in memory for the entire loop, and the result as well.
 #[inline(always)]
-fn keep_cut_copied(
+fn keep_thread_end_copied(
     design: &mut Design,
     at: u64,
     place: Point,
@@ -64,7 +64,7 @@ fn keep_cut_copied(
 {
     let copy = EventAt { at, event };
     let there = place_after_cut(place, copy.event);
-    keep_cut(design, copy.at, copy.event, there)?;
+    keep_thread_end(design, copy.at, copy.event, there)?;
     Ok(there)
 }
 
@@ -121,7 +121,7 @@ fn keep_commands(design: &mut Design, at: u64, event: Event, there: Point) -> Re
     match event {
         Event::Stitch(_) => keep(design, at, Command::Stitch(there)),
         Event::Jump(_) => keep(design, at, Command::Jump(there)),
-        _ => keep_cut(design, at, event, there),
+        _ => keep_thread_end(design, at, event, there),
     }
 }
 
@@ -129,7 +129,7 @@ fn keep_commands(design: &mut Design, at: u64, event: Event, there: Point) -> Re
 /// readers' loops.
 #[cold]
 #[inline(never)]
-fn keep_cut(design: &mut Design, at: u64, event: Event, there: Point) -> Result<(), ReadFault>
+fn keep_thread_end(design: &mut Design, at: u64, event: Event, there: Point) -> Result<(), ReadFault>
     requires { trims_or_stops event ≡ true }
     ensures value { AddsCommands at (event_commands_at event there) design.old result design.new }
     ensures others { SameButCommands design.old design.new }

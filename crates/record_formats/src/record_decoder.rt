@@ -5,9 +5,8 @@ ghost use Rattle.std.specs.Prelude.{◌≡◌, true};
 use crate::record_loop::read_records;
 use crate::record_reader::RecordReader;
 use crate::record_stage::RecordStage;
-use design_model::{Command, Design, Point};
+use design_model::{Command, Design, Memory, Point};
 use format_traits::{Decoder, Loaded, ReadFault};
-use lists_and_numbers::Memory;
 use std::alloc::Global;
 use std::mem::replace;
 

@@ -3,14 +3,13 @@ ghost use Rattle.design_model.specs.declared.point.TheConstants.{JUMP_LIMIT};
 ghost use Rattle.format_traits.specs.DecoderStates.{TakesBytes};
 ghost use Rattle.record_formats.specs.RecordStates.{record_so_far_at, record_state_at};
 ghost use Rattle.record_formats.specs.declared.record_stage.RecordStage.TheVariants as stage;
-ghost use Rattle.std.specs.Prelude.{◌≡◌, ◌+◌, ◌<◌, ◌^◌, IfOk, IsTrue, true, false, length};
+ghost use Rattle.std.specs.Prelude.{◌≡◌, ◌+◌, ◌<◌, ◌^◌, IfOk, IsTrue, false, length};
 
 use crate::event_adding::keep_event;
 use crate::record_reader::{NextRecord, RecordReader};
 use crate::record_stage::RecordStage;
-use design_model::{Design, Point};
+use design_model::{Design, Memory, Point};
 use format_traits::ReadFault;
-use lists_and_numbers::Memory;
 
 /// How far a reader of records read: the number of bytes, the hoop's position, and the stage.
 #[derive(Clone, Copy)]

@@ -1,6 +1,5 @@
-use design_model::Point;
+use design_model::{Bytes, Memory, Point};
 use format_traits::WriteLimits;
-use lists_and_numbers::{Bytes, Memory};
 
 /// A writer of a format's records, which appends them to the bytes of a file.
 pub trait RecordWriter {

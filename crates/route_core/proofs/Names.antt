@@ -10,8 +10,8 @@ pub use Rattle.blossom_match.specs.Matchings.{width_of}
 pub use Rattle.blossom_match.specs.declared.matching.Moat.{Moat}
 pub use Rattle.blossom_match.specs.declared.matching.Pair.{Pair}
 pub use Rattle.double_run.specs.DoubleWalks.{IsDouble, without_ends}
-pub use Rattle.drawing_model.specs.Drawings.{DrawingValue, KeepsDrawingLimits}
-pub use Rattle.drawing_model.specs.declared.limits.TheConstants.{MAX_COST, MAX_LINES}
+pub use Rattle.line_graph.specs.Drawings.{DrawingValue, KeepsDrawingLimits}
+pub use Rattle.line_graph.specs.declared.limits.TheConstants.{MAX_COST, MAX_LINES}
 pub use Rattle.euler_tour.specs.Tours.{CanPass, IsTour, copies_cost, pass_count, pass_ends}
 pub use Rattle.line_graph.proofs.CallerLemmas.{above_at, commands_count, goes_from, lost, or_below, walk_append}
 pub use Rattle.line_graph.specs.PieceGraphs.{PieceValue, closing_edge, degree, edges_with_closing, given_end, given_start, is_odd}
@@ -27,7 +27,7 @@ pub use Rattle.line_graph.specs.ValidPieces.{IsValidPiece, all_below, all_costs_
 pub use Rattle.line_graph.specs.declared.edge.Edge.{Edge}
 pub use Rattle.line_graph.specs.declared.pass.Pass.{Pass}
 pub use Rattle.line_graph.specs.declared.piece.Piece.{Piece}
-pub use Rattle.lists_and_numbers.proofs.CallerLemmas.{below_left, below_right, eq_self, same_number, sum_over, unequal}
+pub use Rattle.design_model.proofs.ListLemmas.{below_left, below_right, eq_self, same_number, sum_over, unequal}
 pub use Rattle.odd_cuts.specs.Certificates.{HasCanonicalText, walks_of}
 pub use Rattle.odd_cuts.specs.PackingBounds.{BoundsTotal, ProvesLeast}
 pub use Rattle.odd_cuts.specs.Packings.{IsOddCut, IsPacking, IsPlainCut}
@@ -41,9 +41,9 @@ pub use Rattle.odd_sets.specs.Tables.{HasTriangleInequality, IsTable, entry}
 pub use Rattle.route_core.specs.Copies.{AddsCopies, AddsPairs, IsPairOf, copies_sum, edge_end_count, incremented_at, index_sum, pair_costs}
 pub use Rattle.route_core.specs.Copies.{pair_ends, total_copies}
 pub use Rattle.route_core.specs.Distances.{HasFilledEntries, IsTableOf, is_filled_entry}
-pub use Rattle.route_core.specs.Doubles.{IsDoubleCert, IsDoubleOver, IsDoubled}
+pub use Rattle.route_core.specs.Doubles.{IsDoubleCert, IsDoubled}
 pub use Rattle.route_core.specs.OddPairs.{AreOddPairs, AreOddRows, IsWalkBy}
 pub use Rattle.route_core.specs.PieceCertificates.{CertifiesLeastWalk}
-pub use Rattle.route_core.specs.Routes.{IsLeastPieceRoute, IsRoute}
+pub use Rattle.route_core.specs.Routes.{IsLeastPieceRoute}
 pub use Rattle.route_core.specs.declared.routed.Routed.{Routed}
 pub use Rattle.route_verdict.specs.SewingSteps.{AllDrawn, AreDrawn}

@@ -1,9 +1,11 @@
 -- Certificates and double runs that aren't right, each for one reason, and what a route means.
 use Rattle.std.proofs.Common.{◌≡◌, ℕ, ◌+◌, ◌*◌, ◌≤◌, pos, true, false, List, [], ◌∷◌, All, None, Option, length, refl, arith, ap, sym, true≢false}
-use Rattle.route_core.proofs.Names.{AllZip, Edge, Pass, DrawingValue, PieceValue, given_start, piece_graph, ArePieces, BeginsWith, is_fitting_walk, piece_cost, walk_cost, AreWritable, runs_of, sewn_design, PieceCert, Cut, HasCanonicalText, walks_of, Routed, IsDoubled, CertifiesLeastWalk, IsLeastPieceRoute, first_line, IsPacking, IsDouble, IsDoubleOver, IsRoute}
+use Rattle.route_core.proofs.Names.{AllZip, Edge, Pass, DrawingValue, PieceValue, given_start, piece_graph, ArePieces, BeginsWith, is_fitting_walk, piece_cost, walk_cost, AreWritable, runs_of, sewn_design, PieceCert, Cut, HasCanonicalText, walks_of, Routed, IsDoubled, CertifiesLeastWalk, IsLeastPieceRoute, first_line, IsPacking, IsDouble}
 use Rattle.design_model.specs.declared.point.Point.{Point}
 use Rattle.line_graph.specs.Walks.{needles_of_walk}
 use Rattle.odd_cuts.specs.Cuts.{total_weight}
+use Rattle.route_core.specs.SewnDrawings.{IsRoute, IsSewnOver}
+use Rattle.route_verdict.specs.declared.sewing_ways.Sewing.TheVariants as ways
 
 abbrev corner : ℕ → ℕ → Point
 corner x y = record { x = pos x; y = pos y }
@@ -137,9 +139,9 @@ known_double d lines c is = (is.double, is.retraced, is.cuts, omega (arith, is.p
 pub known_route : (d : DrawingValue) (r : Routed) → IsRoute d r → (pieces : List (List ℕ)) × ArePieces d pieces
     × AllZip (IsLeastPieceRoute d) pieces r.cert.pieces × All HasCanonicalText r.cert.pieces
     × AreWritable d.step (runs_of d (walks_of r.cert.pieces)) × (r.design ≡ sewn_design d (walks_of r.cert.pieces))
-known_route d r is = (is.pieces, is.is.pieces_are, is.is.best, is.is.canonical, is.is.writable, is.is.design)
+known_route d r is = (is.pieces, is.is.pieces_are, is.is.each, is.is.canonical, is.is.writable, is.is.design)
 
-pub known_double_run : (d : DrawingValue) (pieces : List (List ℕ)) (r : Routed) → IsDoubleOver d pieces r → ArePieces d pieces
+pub known_double_run : (d : DrawingValue) (pieces : List (List ℕ)) (r : Routed) → IsSewnOver ways.Double d pieces r → ArePieces d pieces
     × AllZip (IsDoubled d) pieces r.cert.pieces × All HasCanonicalText r.cert.pieces
     × AreWritable d.step (runs_of d (walks_of r.cert.pieces)) × (r.design ≡ sewn_design d (walks_of r.cert.pieces))
 known_double_run d pieces r is = (is.pieces_are, is.each, is.canonical, is.writable, is.design)

@@ -8,8 +8,7 @@ pub mod Copies
 pub mod OddPairs
 pub mod PieceCertificates
 pub mod RoutedPieceCertificates
--- Read this one first: the route of a drawing.
 pub mod Routes
 pub mod Doubles
--- Both, by kind, for this crate alone.
-pub mod RunKinds
+-- Read this one first: the route of a drawing, and its double run.
+pub mod SewnDrawings

@@ -6,8 +6,8 @@ ghost use Rattle.route_core.specs.Copies.{copies_sum};
 ghost use Rattle.std.specs.Prelude.{◌≡◌, ◌<◌, ◌+◌, ◌-◌, ◌∷◌, ◌^◌, All, IfOk, OnOk, [], get_or, length, replicate};
 
 use blossom_match::Pair;
+use design_model::{Memory, Numbers};
 use line_graph::Piece;
-use lists_and_numbers::{Memory, Numbers};
 use odd_paths::Rows;
 use std::alloc::Global;
 

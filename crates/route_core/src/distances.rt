@@ -1,11 +1,11 @@
 ghost use Rattle.line_graph.specs.PiecesOfDrawings.{graph_of};
-ghost use Rattle.odd_paths.specs.LeastRows.{AreRows, cost_at, terminal_of};
+ghost use Rattle.odd_paths.specs.LeastRows.{AreRows, cost_at};
 ghost use Rattle.odd_sets.specs.declared.table.TheConstants.{MAX_DISTANCE, MAX_PLACES};
 ghost use Rattle.route_core.specs.Distances.{HasDistances, HasFilledEntries};
 ghost use Rattle.std.specs.Prelude.{◌≡◌, ◌<◌, ◌≤◌, IfOk, length};
 
+use design_model::Memory;
 use line_graph::Piece;
-use lists_and_numbers::Memory;
 use odd_paths::Rows;
 use odd_sets::DistTable;
 use std::alloc::Global;

@@ -7,9 +7,9 @@ mod doubling;
 mod piece_route;
 mod routed;
 mod routing;
-mod runs;
+mod sewn_pieces;
 
-pub use doubling::double_pieces;
-pub use route_verdict::{Reason, Verdict, judge, sew};
+pub use route_verdict::{Reason, Sewing, Verdict, judge, sew};
 pub use routed::Routed;
-pub use routing::{route, route_pieces};
+pub use routing::route;
+pub use sewn_pieces::sew_pieces;

@@ -1,6 +1,6 @@
 ghost use Rattle.blossom_match.specs.Matchings.{IsPerfectMatching};
-ghost use Rattle.drawing_model.specs.declared.limits.TheConstants.{MAX_COST, MAX_LINES};
 ghost use Rattle.line_graph.specs.PiecesOfDrawings.{graph_of};
+ghost use Rattle.line_graph.specs.declared.limits.TheConstants.{MAX_COST, MAX_LINES};
 ghost use Rattle.odd_cuts.specs.Certificates.{HasCanonicalText};
 ghost use Rattle.odd_paths.specs.LeastRows.{AreRows};
 ghost use Rattle.route_core.specs.Copies.{IsPairOf, pair_costs};
@@ -13,9 +13,9 @@ use crate::copies::copies_of;
 use crate::distances::{distance, distances};
 use blossom_match::{Matching, Pair, match_all};
 use cut_certificate::lift;
+use design_model::Memory;
 use euler_tour::tour;
 use line_graph::{Piece, Walk};
-use lists_and_numbers::Memory;
 use odd_cuts::{PieceCert, packings_keep_their_total, packings_prove_least};
 use odd_paths::{Rows, odd, odds_are_even, rows};
 use std::alloc::Global;

@@ -6,4 +6,4 @@ mod moat_checks;
 #[cfg(test)]
 mod tests;
 
-pub use moat_checks::keep_loads;
+pub use moat_checks::have_small_loads;

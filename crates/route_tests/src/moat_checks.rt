@@ -7,7 +7,7 @@ use odd_paths::Rows;
 
 /// Returns whether no two terminals have a load above two halves for each step between them. It is false for
 /// 2 to the 32 terminals and more.
-pub fn keep_loads(rows: &Rows, terminals: &[u32], moats: &[Moat]) -> bool
+pub fn have_small_loads(rows: &Rows, terminals: &[u32], moats: &[Moat]) -> bool
     requires { length rows.now.table ≡ length terminals.now }
     ensures { IsTrue result → KeepsLoads rows.now terminals.now moats.now }
 {
@@ -16,7 +16,7 @@ pub fn keep_loads(rows: &Rows, terminals: &[u32], moats: &[Moat]) -> bool
     }
     let count = terminals.len() as u32;
     for t in 0..count {
-        if !keep_loads_from(rows, terminals, moats, t, count) {
+        if !have_small_loads_from(rows, terminals, moats, t, count) {
             return false;
         }
     }
@@ -24,7 +24,7 @@ pub fn keep_loads(rows: &Rows, terminals: &[u32], moats: &[Moat]) -> bool
 }
 
 /// Returns whether no load between a terminal and any other is too high.
-fn keep_loads_from(rows: &Rows, terminals: &[u32], moats: &[Moat], t: u32, count: u32) -> bool
+fn have_small_loads_from(rows: &Rows, terminals: &[u32], moats: &[Moat], t: u32, count: u32) -> bool
     requires there { t < length rows.now.table }
     requires counted { count ≡ length terminals.now }
     ensures { IsTrue result → KeepsLoadsFrom rows.now terminals.now moats.now t }

@@ -4,10 +4,10 @@ use Rattle.std.specs.Fmt.{digits}
 use Rattle.std.specs.Prelude.{codes}
 use Rattle.route_texts.specs.declared.sewing_reports.PieceReport.{PieceReport}
 use Rattle.route_texts.specs.declared.summary.Summary.{Summary}
-use Rattle.route_texts.specs.declared.sewing_reports.Sewing.TheVariants as sewing
+use Rattle.route_verdict.specs.declared.sewing_ways.Sewing.TheVariants as sewing
 use Rattle.route_texts.specs.SewingReports.{sewing_report}
 use Rattle.route_texts.specs.Summaries.{summary_text}
-use Rattle.lists_and_numbers.specs.TextLines.{newline}
+use Rattle.design_model.specs.TextLines.{newline}
 
 -- two pieces, of which each walk makes twelve and five steps, and then four more and none
 abbrev pieces : List PieceReport

@@ -1,9 +1,9 @@
 -- The reports of `route` and `double`: a line for each piece, and the totals. Costs count steps.
 use Rattle.std.specs.Prelude.{ℕ, ◌+◌, List, [], ◌∷◌, ◌++◌, codes, decimal, sum_by, length}
-use Rattle.lists_and_numbers.specs.TextLines.{newline}
+use Rattle.design_model.specs.TextLines.{newline}
 use Rattle.route_texts.specs.declared.sewing_reports.PieceReport.{PieceReport}
-use Rattle.route_texts.specs.declared.sewing_reports.Sewing.{Sewing}
-use Rattle.route_texts.specs.declared.sewing_reports.Sewing.TheVariants as sewing
+use Rattle.route_verdict.specs.declared.sewing_ways.Sewing.{Sewing}
+use Rattle.route_verdict.specs.declared.sewing_ways.Sewing.TheVariants as sewing
 
 -- The number of penetrations in a piece.
 abbrev pub penetrations_of : PieceReport → ℕ

@@ -1,6 +1,6 @@
 -- The report of `sample`: a line for each number of the summary.
 use Rattle.std.specs.Prelude.{ℕ, List, ◌++◌, codes, decimal}
-use Rattle.lists_and_numbers.specs.TextLines.{newline}
+use Rattle.design_model.specs.TextLines.{newline}
 use Rattle.route_texts.specs.declared.summary.Summary.{Summary}
 
 -- The lines about a sample drawing: its number, and how much it has of what.

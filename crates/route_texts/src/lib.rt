@@ -8,5 +8,5 @@ mod summary;
 
 pub use piece_sums::summary_of;
 pub use reasons::describe_reason;
-pub use sewing_reports::{PieceReport, Sewing, print_sewing};
-pub use summary::{Summary, print_summary};
+pub use sewing_reports::{PieceReport, describe_sewing};
+pub use summary::{Summary, describe_summary};

@@ -1,16 +1,16 @@
-ghost use Rattle.drawing_model.specs.declared.limits.TheConstants.{MAX_BLOCKS, MAX_LINES};
 ghost use Rattle.line_graph.specs.PieceGraphs.{one_if};
 ghost use Rattle.line_graph.specs.PiecesOfDrawings.{graph_of};
+ghost use Rattle.line_graph.specs.declared.limits.TheConstants.{MAX_LINES};
 ghost use Rattle.route_texts.specs.OddCounts.{odd_number};
 ghost use Rattle.route_texts.specs.PieceReports.{AreReportable, reports_from};
 ghost use Rattle.route_texts.specs.PieceSums.{junctions_of_piece, total_junctions, odd_junctions_of_piece, total_odd_junctions, sample_summary};
 ghost use Rattle.route_texts.specs.SewingReports.{penetrations_of};
-ghost use Rattle.std.specs.Prelude.{◌≡◌, ◌+◌, ◌<◌, ◌≤◌, ◌^◌, All, IfOk, length, sum_by};
+ghost use Rattle.std.specs.Prelude.{◌≡◌, ◌+◌, ◌<◌, ◌≤◌, ◌^◌, IfOk, length, sum_by};
 
 use crate::sewing_reports::{PieceReport, reports_of};
 use crate::summary::Summary;
+use design_model::Memory;
 use line_graph::{Piece, is_odd_at};
-use lists_and_numbers::Memory;
 use odd_cuts::PieceCert;
 use std::alloc::Global;
 

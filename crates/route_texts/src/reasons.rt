@@ -1,7 +1,7 @@
 ghost use Rattle.route_texts.specs.Reasons.{cut_fault_text, piece_fault_text, reason_text, retraced_text, walk_fault_text};
 ghost use Rattle.std.specs.Prelude.{◌≡◌, IfOk, string_bytes};
 
-use lists_and_numbers::Memory;
+use design_model::Memory;
 use odd_cuts::{CutFault, WalkFault};
 use route_verdict::Reason;
 use std::alloc::Global;

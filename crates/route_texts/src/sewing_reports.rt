@@ -1,22 +1,14 @@
-ghost use Rattle.drawing_model.specs.declared.limits.TheConstants.{MAX_BLOCKS, MAX_LINES};
 ghost use Rattle.line_graph.specs.PiecesOfDrawings.{graph_of};
+ghost use Rattle.line_graph.specs.declared.limits.TheConstants.{MAX_BLOCKS, MAX_LINES};
 ghost use Rattle.route_texts.specs.PieceReports.{AreReportable, piece_report, reports_from};
 ghost use Rattle.route_texts.specs.SewingReports.{cost_text, double_cost_text, penetrations_of, piece_position_text, route_cost_text, sewing_report, totals_text};
 ghost use Rattle.std.specs.Prelude.{◌≡◌, ◌<◌, ◌≤◌, ◌^◌, All, IfOk, length, string_bytes, sum_by};
 
+use design_model::{Bytes, Items, Memory};
 use line_graph::Piece;
-use lists_and_numbers::{Bytes, Items, Memory};
 use odd_cuts::PieceCert;
+use route_verdict::Sewing;
 use std::alloc::Global;
-
-/// A way to sew the pieces of a drawing.
-#[derive(Clone, Copy)]
-pub enum Sewing {
-    /// By walks of the least cost.
-    Route,
-    /// By walks that pass each line once in each direction, whose certificate has no cuts.
-    Double,
-}
 
 /// The data of the line about a piece: the numbers of its block and its own, both from 1, and its number of
 /// lines. The cost of the lines and the retraced cost count steps.
@@ -30,7 +22,7 @@ pub struct PieceReport {
 }
 
 /// Returns the report of sewing pieces that way, each with its certificate.
-pub fn print_sewing(
+pub fn describe_sewing(
     alloc: Global,
     way: Sewing,
     pieces: &[Piece],
@@ -40,7 +32,7 @@ pub fn print_sewing(
     ensures { IfOk result (λ text. text ≡ sewing_report way (reports_from 1 pieces.now certs.now)) }
 {
     let reports = reports_of(alloc, pieces, certs)?;
-    print_reports(alloc, way, reports.as_slice())
+    put_reports(alloc, way, reports.as_slice())
 }
 
 /// Returns the data of the lines about pieces, each with its certificate, numbered from 1 on.
@@ -84,7 +76,7 @@ fn report_of(p: &Piece, number: u32, cert: &PieceCert) -> PieceReport
 }
 
 /// Returns the report: a line for each piece, and the totals.
-fn print_reports(alloc: Global, way: Sewing, pieces: &[PieceReport]) -> Result<Bytes, Memory>
+fn put_reports(alloc: Global, way: Sewing, pieces: &[PieceReport]) -> Result<Bytes, Memory>
     requires { sum_by penetrations_of pieces.now < 2 ^ 32 }
     ensures { IfOk result (λ text. text ≡ sewing_report way pieces.now) }
 {

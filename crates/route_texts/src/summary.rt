@@ -1,7 +1,7 @@
 ghost use Rattle.route_texts.specs.Summaries.{summary_counts, summary_costs, summary_text};
 ghost use Rattle.std.specs.Prelude.{◌≡◌, IfOk, string_bytes};
 
-use lists_and_numbers::{Bytes, Memory};
+use design_model::{Bytes, Memory};
 use std::alloc::Global;
 
 /// The summary of the sample drawing of a number, and of a route of it: the numbers of lines, junctions, odd
@@ -21,7 +21,7 @@ pub struct Summary {
 }
 
 /// Returns the text of a summary, a line for each number.
-pub fn print_summary(alloc: Global, s: Summary) -> Result<Bytes, Memory>
+pub fn describe_summary(alloc: Global, s: Summary) -> Result<Bytes, Memory>
     ensures { IfOk result (λ text. text ≡ summary_text s) }
 {
     let mut text = Bytes::new(alloc);

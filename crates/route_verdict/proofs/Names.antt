@@ -11,8 +11,8 @@ pub use Rattle.design_model.specs.declared.act.Act.{Act}
 pub use Rattle.design_model.specs.declared.command.Command.{Command}
 pub use Rattle.design_model.specs.declared.command.Command.TheVariants.{Jump, Stitch, Stop, Trim}
 pub use Rattle.design_model.specs.declared.point.Point.{Point}
-pub use Rattle.drawing_model.specs.Drawings.{DrawingValue, KeepsDrawingLimits}
-pub use Rattle.drawing_model.specs.LineNeedles.{NeedlesLeadAlong, cost_of_line, needles_of_line}
+pub use Rattle.line_graph.specs.Drawings.{DrawingValue, KeepsDrawingLimits}
+pub use Rattle.line_graph.specs.LineNeedles.{NeedlesLeadAlong, cost_of_line, needles_of_line}
 pub use Rattle.line_graph.specs.DrawnWalks.{FittingWalksAreThreads, IsThreadOver, PiecesAreValid}
 pub use Rattle.line_graph.specs.PieceGraphs.{PieceValue, edge_between, junctions_of, piece_graph}
 pub use Rattle.line_graph.specs.PieceWalks.{IsLeastWalk, edge_cost, edge_sum, is_fitting_walk, piece_cost, walk_cost}
@@ -24,7 +24,7 @@ pub use Rattle.line_graph.specs.ValidPieces.{IsValidPiece}
 pub use Rattle.line_graph.specs.Walks.{needles_of_pass, needles_of_walk}
 pub use Rattle.line_graph.specs.declared.pass.Pass.{Pass}
 pub use Rattle.line_graph.specs.declared.piece.Piece.{Piece}
-pub use Rattle.lists_and_numbers.proofs.CallerLemmas.{number_found, same_number, test_none}
+pub use Rattle.design_model.proofs.ListLemmas.{number_found, same_number, test_none}
 pub use Rattle.odd_cuts.proofs.CallerLemmas.{both_none, costs_more}
 pub use Rattle.odd_cuts.specs.Certificates.{walks_of}
 pub use Rattle.odd_cuts.specs.CutFaults.{cuts_fault}

@@ -12,12 +12,12 @@ use Rattle.design_model.specs.Acts.{acts_along, acts_without_numbers}
 use Rattle.design_model.specs.Designs.{DesignValue}
 use Rattle.design_model.specs.Points.{is_point_within}
 use Rattle.line_graph.specs.declared.pass.Pass.{Pass}
-use Rattle.drawing_model.specs.Drawings.{DrawingValue}
+use Rattle.line_graph.specs.Drawings.{DrawingValue}
 use Rattle.line_graph.specs.DrawnWalks.{IsThreadOver}
 use Rattle.line_graph.specs.Pieces.{ArePieces}
 use Rattle.line_graph.specs.Runs.{run_of, sewn_acts_after}
 use Rattle.line_graph.specs.Walks.{needles_of_walk}
-use Rattle.drawing_model.specs.LineNeedles.{cost_of_line}
+use Rattle.line_graph.specs.LineNeedles.{cost_of_line}
 
 -- A piece of a drawing, given by its lines, with the certificate of its thread. The thread runs
 -- over these lines alone and over each of them, from point to point. No thread over the piece has

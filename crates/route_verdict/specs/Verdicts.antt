@@ -12,7 +12,7 @@ use Rattle.odd_cuts.specs.Packings.{IsPacking}
 use Rattle.odd_cuts.specs.WalkFaults.{walk_fault}
 use Rattle.design_model.specs.Acts.{acts_of, acts_without_numbers}
 use Rattle.design_model.specs.Designs.{DesignValue}
-use Rattle.drawing_model.specs.Drawings.{DrawingValue}
+use Rattle.line_graph.specs.Drawings.{DrawingValue}
 use Rattle.line_graph.specs.PieceGraphs.{PieceValue, piece_graph}
 use Rattle.line_graph.specs.Pieces.{ArePieces}
 use Rattle.line_graph.specs.PieceWalks.{IsLeastWalk, is_fitting_walk, piece_cost, walk_cost}

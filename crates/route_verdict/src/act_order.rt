@@ -10,9 +10,8 @@ ghost use Rattle.std.specs.Prelude.{◌≡◌, ◌+◌, ◌≤◌, ◌∷◌, If
 
 use crate::sewing::block_of_walk;
 use crate::walk_needles::walk_needles;
-use design_model::{Act, NumberedAct, Point};
-use drawing_model::Drawing;
-use lists_and_numbers::Memory;
+use design_model::{Act, Memory, NumberedAct, Point};
+use line_graph::Drawing;
 use odd_cuts::PieceCert;
 use std::alloc::Global;
 
@@ -66,7 +65,7 @@ fn pass_run(acts: &[NumberedAct], at: u32, stops: u32, points: &[Point]) -> Resu
     ensures { ComparesActs acts.now at (run_acts stops points.now) result }
 {
     let at = pass_stops(acts, at, stops)?;
-    let at = pass_needles(acts, at, points)?;
+    let at = after_needles(acts, at, points)?;
     pass(acts, at, Act::Trim)
 }
 
@@ -84,7 +83,7 @@ fn pass_stops(acts: &[NumberedAct], at: u32, count: u32) -> Result<u32, u32>
     Ok(next)
 }
 
-fn pass_needles(acts: &[NumberedAct], at: u32, points: &[Point]) -> Result<u32, u32>
+fn after_needles(acts: &[NumberedAct], at: u32, points: &[Point]) -> Result<u32, u32>
     requires few { length acts.now ≤ MAX_COMMANDS }
     requires there { at ≤ length acts.now }
     ensures { ComparesActs acts.now at (map (λ p. act.Needle p false) points.now) result }

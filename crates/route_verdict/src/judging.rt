@@ -9,10 +9,8 @@ use crate::act_order::first_difference;
 use crate::piece_reasons::{wrong_count, wrong_piece};
 use crate::theorems::yes_is_least_redwork;
 use crate::verdict::{Reason, Verdict};
-use design_model::{Design, acts};
-use drawing_model::Drawing;
-use line_graph::{Piece, fitting_walks_are_sewable, pieces, pieces_keep_limits};
-use lists_and_numbers::Memory;
+use design_model::{Design, Memory, acts};
+use line_graph::{Drawing, Piece, fitting_walks_are_sewable, pieces, pieces_keep_limits};
 use odd_cuts::{
     Cert, PieceCert, cut_faults_are_exact, packings_bound_walks, packings_prove_least,
     walk_faults_are_exact,

@@ -1,6 +1,5 @@
-ghost use Rattle.drawing_model.specs.declared.limits.TheConstants.{MAX_COST, MAX_LINES};
-ghost use Rattle.line_graph.specs.PieceWalks.{piece_cost};
 ghost use Rattle.line_graph.specs.PiecesOfDrawings.{graph_of};
+ghost use Rattle.line_graph.specs.declared.limits.TheConstants.{MAX_LINES};
 ghost use Rattle.route_verdict.specs.Verdicts.{HasShortLists, count_reason, piece_reason, pieces_reason};
 ghost use Rattle.std.specs.Prelude.{◌≡◌, ◌+◌, ◌-◌, ◌<◌, ◌≤◌, ◌^◌, All, length, map};
 
@@ -59,7 +58,7 @@ fn wrong_with(p: &Piece, number: u32, cert: &PieceCert) -> Option<Reason>
             found,
         });
     }
-    match check_cuts(p, cert.retraced, cert.cuts.as_slice()) {
+    match check_cuts(p, cert.retraced, &cert.cuts) {
         Ok(()) => None,
         Err(fault) => Some(Reason::Cuts {
             piece: number,

@@ -9,10 +9,8 @@ ghost use Rattle.std.specs.Prelude.{◌≡◌, ◌≤◌, ◌+◌, ◌-◌, All,
 ghost use Rattle.step_splitter.specs.Chains.{IsNeedlePoint};
 
 use crate::walk_needles::walk_needles;
-use design_model::{Command, Design, Point};
-use drawing_model::{Drawing, needles_lead_along};
-use line_graph::Pass;
-use lists_and_numbers::Memory;
+use design_model::{Command, Design, Memory, Point};
+use line_graph::{Drawing, Pass, needles_lead_along};
 use odd_cuts::{Cert, PieceCert};
 use std::alloc::Global;
 

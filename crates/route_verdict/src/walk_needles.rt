@@ -2,10 +2,8 @@ ghost use Rattle.line_graph.specs.Walks.{needles_of_pass, needles_of_walk};
 ghost use Rattle.route_verdict.specs.SewingSteps.{AreDrawn, later_needles};
 ghost use Rattle.std.specs.Prelude.{◌≡◌, ◌<◌, ◌++◌, IfOk, OnOk, drop, if◌then◌else◌, length, reverse};
 
-use design_model::{Point, Points};
-use drawing_model::{Drawing, needles};
-use line_graph::Pass;
-use lists_and_numbers::Memory;
+use design_model::{Memory, Point, Points};
+use line_graph::{Drawing, Pass, needles};
 use std::alloc::Global;
 
 /// Returns the needle points of a walk: those of its passes in order. A point that ends one pass and starts

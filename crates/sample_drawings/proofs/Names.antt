@@ -5,9 +5,9 @@ pub use Rattle.std.proofs.lemmas.List.Elements.{All-append, All-cons, All-nil}
 pub use Rattle.std.proofs.lemmas.Nat.{div-add-mod', div-mul-add, mod-mul-add, mul-add-lt, mul-le}
 pub use Rattle.std.specs.List.{list_any, range_with_len}
 pub use Rattle.design_model.specs.declared.point.Point.{Point}
-pub use Rattle.drawing_model.specs.Drawings.{DrawingValue}
-pub use Rattle.drawing_model.specs.GrowingDrawings.{draw_is_out_of_memory, finished_drawing, line_added, point_count, step_count}
-pub use Rattle.drawing_model.specs.Needles.{steps_of_line}
+pub use Rattle.line_graph.specs.Drawings.{DrawingValue}
+pub use Rattle.line_graph.specs.GrowingDrawings.{draw_is_out_of_memory, finished_drawing, line_added, point_count, step_count}
+pub use Rattle.line_graph.specs.Needles.{steps_of_line}
 pub use Rattle.sample_drawings.specs.Draws.{drawn_number, next_state, state_after}
 pub use Rattle.sample_drawings.specs.GridLines.{lines_at_cell, lines_in_row}
 pub use Rattle.sample_drawings.specs.Grids.{by_index, in_square, moved_junction}

@@ -1,9 +1,9 @@
 -- A growing drawing takes short lines as long as it has room.
 use Rattle.std.proofs.Common.{◌≡◌, ℕ, zero, suc, ◌+◌, ◌≤◌, ◌==◌, Bool, true, false, nat_lt, List, [], ◌∷◌, ◌++◌, length, map, Result, Ok, Err, ap, ◌∙◌, refl, arith}
 use Rattle.sample_drawings.proofs.Names.{nat_tests, list_any, Point, DrawingValue, finished_drawing, line_added, point_count, step_count, draw_is_out_of_memory, steps_of_line, Segment, line_across, cells_per_side, diagonals, line_down, line_along, row_by_row, sample_segments, HasRoom, IsShortSegment, first_block, with_segments}
-use Rattle.lists_and_numbers.specs.OutOfMemory.{IsSpecified}
-use Rattle.drawing_model.specs.declared.draw_kind.DrawKind.{DrawKind}
-use Rattle.drawing_model.specs.declared.draw_kind.DrawKind.TheVariants as kind
+use Rattle.design_model.specs.OutOfMemory.{IsSpecified}
+use Rattle.line_graph.specs.declared.draw_kind.DrawKind.{DrawKind}
+use Rattle.line_graph.specs.declared.draw_kind.DrawKind.TheVariants as kind
 
 -- the drawing takes the two ends of a short line
 taken_so : (d : DrawingValue) (s : Segment) → HasRoom d 1 → IsShortSegment s

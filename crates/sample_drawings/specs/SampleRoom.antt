@@ -2,10 +2,10 @@
 use Rattle.std.specs.Prelude.{◌≡◌, ℕ, ◌+◌, ◌*◌, ◌≤◌, true, false, List, [], ◌∷◌, ◌++◌, codes, length, map}
 use Rattle.design_model.specs.declared.point.TheConstants.{NEEDLE_LIMIT}
 use Rattle.design_model.specs.Points.{is_same_point, is_point_within}
-use Rattle.drawing_model.specs.declared.limits.TheConstants.{MAX_LINES}
-use Rattle.drawing_model.specs.Drawings.{DrawingValue}
-use Rattle.drawing_model.specs.GrowingDrawings.{empty_drawing, point_count, step_count, with_new_block}
-use Rattle.drawing_model.specs.Needles.{steps_of_line}
+use Rattle.line_graph.specs.declared.limits.TheConstants.{MAX_LINES}
+use Rattle.line_graph.specs.Drawings.{DrawingValue}
+use Rattle.line_graph.specs.GrowingDrawings.{empty_drawing, point_count, step_count, with_new_block}
+use Rattle.line_graph.specs.Needles.{steps_of_line}
 use Rattle.sample_drawings.specs.declared.segment.Segment.{Segment}
 use Rattle.sample_drawings.specs.Samples.{line_along}
 

@@ -5,7 +5,7 @@ use Rattle.std.specs.Prelude.{ℕ, Bool, pos, ◌+◌, ◌*◌, ◌%◌, ◌==�
 use Rattle.std.specs.List.{range_with_len}
 use Rattle.design_model.specs.declared.point.Point.{Point}
 use Rattle.line_sections.specs.Lines.{LineValue}
-use Rattle.drawing_model.specs.Drawings.{DrawingValue}
+use Rattle.line_graph.specs.Drawings.{DrawingValue}
 use Rattle.sample_drawings.specs.declared.segment.Segment.{Segment}
 use Rattle.sample_drawings.specs.Draws.{drawn_number}
 

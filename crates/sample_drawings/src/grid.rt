@@ -7,8 +7,7 @@ ghost use Rattle.std.specs.Prelude.{◌≡◌, ◌+◌, ◌*◌, ◌<◌, ◌≤
 
 use crate::draws::Generator;
 use crate::segment::Segment;
-use design_model::{Point, Points};
-use lists_and_numbers::{Memory, Numbers};
+use design_model::{Memory, Numbers, Point, Points};
 use std::alloc::Global;
 
 /// The number of sizes of grids.

@@ -4,7 +4,7 @@ ghost use Rattle.std.specs.Prelude.{◌≡◌, ◌<◌, ◌++◌, IfOk, OnOk};
 
 use crate::grid::{Grid, cell_count, junction_count};
 use crate::segment::{Segment, Segments};
-use lists_and_numbers::Memory;
+use design_model::Memory;
 use std::alloc::Global;
 
 /// The directions of the lines of a grid.

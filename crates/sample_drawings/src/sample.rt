@@ -1,5 +1,5 @@
-ghost use Rattle.drawing_model.specs.WalkEnds.{HasNoEnds};
-ghost use Rattle.drawing_model.specs.declared.draw_kind.DrawKind.TheVariants as kind;
+ghost use Rattle.line_graph.specs.WalkEnds.{HasNoEnds};
+ghost use Rattle.line_graph.specs.declared.draw_kind.DrawKind.TheVariants as kind;
 ghost use Rattle.sample_drawings.specs.SampleRoom.{HasRoom, IsShortSegment, first_block, with_segments};
 ghost use Rattle.sample_drawings.specs.Samples.{sample_drawing_of};
 ghost use Rattle.sample_drawings.specs.declared.draws.TheConstants.{MAX_NUMBER};
@@ -8,9 +8,8 @@ ghost use Rattle.std.specs.Prelude.{◌≡◌, ◌≤◌, ◌∷◌, [], All, If
 use crate::grid::Grid;
 use crate::grid_lines::segments;
 use crate::segment::Segment;
-use design_model::Points;
-use drawing_model::{DrawKind, Drawing, DrawingMaker};
-use lists_and_numbers::Memory;
+use design_model::{Memory, Points};
+use line_graph::{DrawKind, Drawing, DrawingMaker};
 use std::alloc::Global;
 
 /// The longest step of a sample drawing, in tenths of a millimetre.

@@ -1,5 +1,4 @@
-use design_model::Point;
-use lists_and_numbers::Items;
+use design_model::{Items, Point};
 
 /// A straight segment from one point to another, in tenths of a millimetre.
 #[derive(Clone, Copy)]

@@ -11,11 +11,11 @@ pub use Rattle.std.specs.List.{concat, count_by, flat_map, list_all, list_any, s
 pub use Rattle.design_model.proofs.CallerLemmas.{same_back, same_is}
 pub use Rattle.design_model.specs.Points.{is_same_point}
 pub use Rattle.design_model.specs.declared.point.Point.{Point}
-pub use Rattle.drawing_model.specs.Drawings.{DrawingValue, IsLine, endpoints}
-pub use Rattle.drawing_model.specs.GrowingDrawings.{and_then, point_count}
-pub use Rattle.drawing_model.specs.Needles.{segment_steps, steps_of_line}
-pub use Rattle.drawing_model.specs.WalkEnds.{are_connected_spots, end_spots, has_end_at_spot, is_junction, merged_representative}
-pub use Rattle.drawing_model.specs.WalkEnds.{representative, spot_added}
+pub use Rattle.line_graph.specs.Drawings.{DrawingValue, IsLine, endpoints}
+pub use Rattle.line_graph.specs.GrowingDrawings.{and_then, point_count}
+pub use Rattle.line_graph.specs.Needles.{segment_steps, steps_of_line}
+pub use Rattle.line_graph.specs.WalkEnds.{are_connected_spots, end_spots, has_end_at_spot, is_junction, merged_representative}
+pub use Rattle.line_graph.specs.WalkEnds.{representative, spot_added}
 pub use Rattle.drawing_repairs.specs.Anchors.{distance_between}
 pub use Rattle.drawing_review.specs.Frames.{grid_point}
 pub use Rattle.drawing_review.specs.Meetings.{is_near}
@@ -24,7 +24,7 @@ pub use Rattle.line_sections.specs.Sections.{all_sections, but_last, has_points,
 pub use Rattle.line_sections.specs.Sections.{lines_through, listed_in, sections_from, sections_of, sections_with_first}
 pub use Rattle.line_sections.specs.Spots.{is_same_spot}
 pub use Rattle.line_sections.specs.declared.spot.Spot.{Spot}
-pub use Rattle.lists_and_numbers.proofs.CallerLemmas.{and_false, either_way, first_true, second_true}
+pub use Rattle.design_model.proofs.ListLemmas.{and_false, either_way, first_true, second_true}
 pub use Rattle.spaced_lines.specs.SpacedAnswers.{SpacedLinesKeepLimits, SpacingRefusesNone, with_lines_spaced}
 pub use Rattle.spaced_lines.specs.SpacedDrawings.{space_of, spaced_and_joined}
 pub use Rattle.spaced_lines.specs.SpacedLines.{comes_near_all, is_spot_of, is_stitch_for, kept_after, leeway_of, may_leave_out, spaced_line}

@@ -1,7 +1,7 @@
 -- Worked values of spaced drawings, in tenths of a millimetre.
 use Rattle.std.proofs.Common.{◌≡◌, ℕ, pos, List, [], ◌∷◌, Ok, Err, refl}
 use Rattle.spaced_lines.proofs.Names.{Point, DrawingValue, Spot, LineValue, space_of}
-use Rattle.drawing_model.specs.declared.draw_kind.DrawKind.TheVariants as kind
+use Rattle.line_graph.specs.declared.draw_kind.DrawKind.TheVariants as kind
 
 abbrev at : ℕ → ℕ → Point
 at x y = record { x = pos x; y = pos y }

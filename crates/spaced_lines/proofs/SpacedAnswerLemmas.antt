@@ -4,9 +4,9 @@ use Rattle.std.proofs.lemmas.Result.{IfOk-at_ok}
 use Rattle.spaced_lines.proofs.Names.{nat_tests, length-map, All-head, All-tail, sum_by-cons, flat_map, list_any, Point, is_same_point, DrawingValue, endpoints, point_count, end_spots, is_junction, Spot, LineValue, all_sections, has_points, is_shared_point, line_sections, lines_through, sections_from, sections_of, sections_with_first, is_same_spot, SpacedLinesKeepLimits, spaced_line, spaced_lines, SectionsKeepEnds, fun_ext, length-append, sum_by-append, and_then, are_connected_spots, merged_representative, representative, spot_added, SpacingRefusesNone, with_lines_spaced, spaced_and_joined, and_false}
 use Rattle.drawing_edits.specs.RedrawnDrawings.{with_starts_and_ends, with_walk_ends}
 use Rattle.drawing_edits.specs.ValidRedraws.{LinesWithinLimitsAreDrawn}
-use Rattle.drawing_model.specs.declared.draw_kind.DrawKind.{DrawKind}
-use Rattle.drawing_model.specs.declared.draw_kind.DrawKind.TheVariants as kind
-use Rattle.drawing_model.specs.JoinedDrawings.{joined_drawing}
+use Rattle.line_graph.specs.declared.draw_kind.DrawKind.{DrawKind}
+use Rattle.line_graph.specs.declared.draw_kind.DrawKind.TheVariants as kind
+use Rattle.line_graph.specs.JoinedDrawings.{joined_drawing}
 use Rattle.drawing_edits.proofs.CallerLemmas.{HasSpots, spots_put}
 use Rattle.spaced_lines.proofs.SpacedLimitLemmas.{points_less}
 

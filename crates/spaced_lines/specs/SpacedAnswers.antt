@@ -2,9 +2,9 @@
 -- and ends that the joined drawing takes.
 use Rattle.std.specs.Prelude.{◌≡◌, List, [], Ok}
 use Rattle.drawing_edits.specs.RedrawnDrawings.{with_starts_and_ends}
-use Rattle.drawing_model.specs.Drawings.{DrawingValue, KeepsDrawingLimits}
-use Rattle.drawing_model.specs.GrowingDrawings.{and_then}
-use Rattle.drawing_model.specs.JoinedDrawings.{joined_drawing}
+use Rattle.line_graph.specs.Drawings.{DrawingValue, KeepsDrawingLimits}
+use Rattle.line_graph.specs.GrowingDrawings.{and_then}
+use Rattle.line_graph.specs.JoinedDrawings.{joined_drawing}
 use Rattle.line_sections.specs.declared.spot.Spot.{Spot}
 use Rattle.line_sections.specs.Sections.{all_sections}
 use Rattle.spaced_lines.specs.SpacedDrawings.{space_of}

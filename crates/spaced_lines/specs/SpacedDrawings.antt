@@ -2,10 +2,10 @@
 -- drawing before, and its lines without the points that are left out.
 use Rattle.std.specs.Prelude.{List, Result, Ok}
 use Rattle.drawing_edits.specs.RedrawnDrawings.{drawn_lines, with_starts_and_ends}
-use Rattle.drawing_model.specs.declared.draw_kind.DrawKind.{DrawKind}
-use Rattle.drawing_model.specs.Drawings.{DrawingValue}
-use Rattle.drawing_model.specs.GrowingDrawings.{and_then}
-use Rattle.drawing_model.specs.JoinedDrawings.{joined_drawing}
+use Rattle.line_graph.specs.declared.draw_kind.DrawKind.{DrawKind}
+use Rattle.line_graph.specs.Drawings.{DrawingValue}
+use Rattle.line_graph.specs.GrowingDrawings.{and_then}
+use Rattle.line_graph.specs.JoinedDrawings.{joined_drawing}
 use Rattle.line_sections.specs.declared.spot.Spot.{Spot}
 use Rattle.spaced_lines.specs.declared.spaced_drawing.SpacedDrawing.{SpacedDrawing}
 use Rattle.spaced_lines.specs.SpacedLines.{spaced_lines}

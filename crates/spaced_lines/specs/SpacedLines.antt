@@ -9,7 +9,7 @@ use Rattle.design_model.specs.Points.{is_same_point}
 use Rattle.line_sections.specs.declared.spot.Spot.{Spot}
 use Rattle.line_sections.specs.Lines.{LineValue}
 use Rattle.line_sections.specs.Sections.{all_sections}
-use Rattle.drawing_model.specs.WalkEnds.{is_junction}
+use Rattle.line_graph.specs.WalkEnds.{is_junction}
 use Rattle.drawing_review.specs.Frames.{grid_point}
 use Rattle.drawing_review.specs.Meetings.{is_near}
 use Rattle.drawing_repairs.specs.Anchors.{distance_between}

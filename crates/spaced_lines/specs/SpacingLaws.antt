@@ -2,10 +2,10 @@
 -- them, and how many stitches are saved. Costs count steps.
 use Rattle.std.specs.Prelude.{◌≡◌, ℕ, ◌+◌, ◌≤◌, ◌⊎◌, Bool, true, List, [], ◌∷◌, ◌++◌, length, map, filter, All}
 use Rattle.design_model.specs.declared.point.Point.{Point}
-use Rattle.drawing_model.specs.Drawings.{DrawingValue, IsLine, endpoints}
-use Rattle.drawing_model.specs.Needles.{steps_of_line}
+use Rattle.line_graph.specs.Drawings.{DrawingValue, IsLine, endpoints}
+use Rattle.line_graph.specs.Needles.{steps_of_line}
 use Rattle.line_graph.specs.Pieces.{ArePieces}
-use Rattle.drawing_model.specs.WalkEnds.{end_spots, is_junction}
+use Rattle.line_graph.specs.WalkEnds.{end_spots, is_junction}
 use Rattle.line_sections.specs.Lines.{LineValue}
 use Rattle.line_sections.specs.Sections.{all_sections, inner_points, is_shared_point}
 use Rattle.spaced_lines.specs.SpacedLines.{is_spot_of, is_stitch_for, spaced_lines, spaced_points}

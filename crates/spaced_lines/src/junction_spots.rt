@@ -1,12 +1,12 @@
-ghost use Rattle.drawing_model.specs.WalkEnds.{has_end_at_spot, is_junction};
+ghost use Rattle.line_graph.specs.WalkEnds.{has_end_at_spot, is_junction};
 ghost use Rattle.line_sections.specs.Spots.{is_same_spot};
 ghost use Rattle.line_sections.specs.declared.spot.Spot.{Spot as SpotValue};
 ghost use Rattle.std.specs.HashSet.{contains};
 ghost use Rattle.std.specs.Prelude.{◌≡◌, ◌||◌, IfOk, OnOk};
 
+use design_model::Memory;
 use drawing_repairs::last_or;
 use line_sections::{Line, Spot};
-use lists_and_numbers::Memory;
 use std::alloc::Global;
 use std::collections::HashSet;
 

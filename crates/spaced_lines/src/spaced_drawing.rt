@@ -1,17 +1,17 @@
-ghost use Rattle.drawing_model.specs.GrowingDrawings.{draw_is_out_of_memory};
-ghost use Rattle.drawing_model.specs.JoinedDrawings.{joined_drawing};
-ghost use Rattle.drawing_model.specs.WalkEnds.{HasNoEnds};
-ghost use Rattle.lists_and_numbers.specs.OutOfMemory.{IsSpecified};
+ghost use Rattle.design_model.specs.OutOfMemory.{IsSpecified};
+ghost use Rattle.line_graph.specs.GrowingDrawings.{draw_is_out_of_memory};
+ghost use Rattle.line_graph.specs.JoinedDrawings.{joined_drawing};
+ghost use Rattle.line_graph.specs.WalkEnds.{HasNoEnds};
 ghost use Rattle.spaced_lines.specs.SpacedDrawings.{space_of, with_spaced_lines};
 ghost use Rattle.spaced_lines.specs.SpacedLines.{spaced_lines};
 ghost use Rattle.std.specs.Prelude.{◌≡◌, IfOk, Ok};
 
 use crate::junction_spots::junctions;
 use crate::spacing::spaced;
+use design_model::Memory;
 use drawing_edits::{draw_lines, joined_with_ends};
-use drawing_model::{DrawKind, Drawing, Line, Spot};
+use line_graph::{DrawKind, Drawing, Line, Spot};
 use line_sections::sections;
-use lists_and_numbers::Memory;
 use std::alloc::Global;
 
 /// A spaced drawing: its lines as they are drawn, and the joined drawing with the starts and ends.

@@ -2,16 +2,15 @@ ghost use Rattle.design_model.specs.declared.point.Point.{Point as PointValue};
 ghost use Rattle.drawing_review.specs.Frames.{grid_point};
 ghost use Rattle.drawing_review.specs.Meetings.{is_near};
 ghost use Rattle.line_sections.specs.Spots.{is_same_spot};
-ghost use Rattle.spaced_lines.specs.SpacedLines.{comes_near_all, is_spot_of, is_stitch_for, kept_after, kept_from, leeway_of, may_leave_out, spaced_line, spaced_points};
+ghost use Rattle.spaced_lines.specs.SpacedLines.{is_spot_of, is_stitch_for, kept_after, kept_from, leeway_of, may_leave_out, spaced_line, spaced_points};
 ghost use Rattle.std.specs.HashSet.{contains};
 ghost use Rattle.std.specs.List.{list_all};
 ghost use Rattle.std.specs.Prelude.{◌≡◌, ◌++◌, ◌∷◌, [], List, IfOk, OnOk, map};
 
-use design_model::{Point, Points};
+use design_model::{Memory, Point, Points};
 use drawing_repairs::{distance, lone_segment};
 use drawing_review::{LineSegment, comes_near, counted_from_least};
 use line_sections::{Line, Spot};
-use lists_and_numbers::Memory;
 use std::alloc::Global;
 use std::collections::HashSet;
 

@@ -1,7 +1,7 @@
 -- Sizes of moves, and needle points as limits on each axis.
 use Rattle.std.proofs.Common.{◌≢◌, ◌≤◌, arith}
 use Rattle.step_splitter.proofs.Names.{nat_tests, le-max_left, le-max_right, Point, move_between, move_size, same_point}
-use Rattle.lists_and_numbers.proofs.CallerLemmas.{no_difference}
+use Rattle.design_model.proofs.ListLemmas.{no_difference}
 
 -- the move between two points that differ has a size
 pub size_some : (p q : Point) → p ≢ q → 1 ≤ move_size (move_between p q)

@@ -9,8 +9,7 @@ ghost use Rattle.step_splitter.specs.declared.refitting.RefitFault.TheVariants a
 ghost use Rattle.step_splitter.specs.declared.segment.TheConstants.{MAX_STEP};
 
 use crate::refit_state::RefitState;
-use design_model::{ActScanner, Command, Design};
-use lists_and_numbers::Memory;
+use design_model::{ActScanner, Command, Design, Memory};
 use std::alloc::Global;
 
 /// The change that a refit makes.

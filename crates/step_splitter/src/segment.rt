@@ -5,8 +5,7 @@ ghost use Rattle.step_splitter.specs.Chains.{IsNeedlePoint, LeadsBySteps};
 ghost use Rattle.step_splitter.specs.Steps.{point_on_segment, split_points, steps_of};
 
 use crate::segment_points::point_at;
-use design_model::{Point, Points};
-use lists_and_numbers::Memory;
+use design_model::{Memory, Point, Points};
 use std::alloc::Global;
 
 /// The greatest value of a longest step, in tenths of a millimetre.

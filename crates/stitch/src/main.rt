@@ -4,7 +4,7 @@
 use dst_codec::Dst;
 use exp_codec::Exp;
 use format_traits::Format;
-use pec_pes_codec::{Pec, Pes};
+use pes_codec::{Pec, Pes};
 use program_shell::start;
 use std::process::ExitCode;
 use stitch_cli::{name, run};

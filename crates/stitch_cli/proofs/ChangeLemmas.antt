@@ -1,11 +1,11 @@
 -- Changes decide: they make one design of another, or are refused.
 use Rattle.std.proofs.Common.{◌≡◌, ℕ, inl, inr, List, [], ◌∷◌, Result, Ok, Err, sym, ◌∙◌, subst, arith}
-use Rattle.stitch_cli.proofs.Names.{Change, cut, split, turn, DesignValue, Loaded, ProductValue, IsRewriteResult, RewriteOrder, not_changed, not_written, mirror, shift, thread}
+use Rattle.stitch_cli.proofs.Names.{Change, cut, split, move, DesignValue, Loaded, ProductValue, IsRewriteResult, RewriteOrder, not_changed, not_written, thread}
 use Rattle.step_splitter.specs.declared.refitting.RefitMode.{RefitMode}
 use Rattle.step_splitter.specs.declared.refitting.RefitMode.TheVariants as mode
-use Rattle.design_changes.specs.declared.change_faults.ChangeFault.{ChangeFault}
-use Rattle.design_changes.specs.declared.change_faults.ChangeFault.TheVariants as reason
-use Rattle.design_changes.specs.ChangedDesigns.{Becomes, BecomesAll, RefitsTo}
+use Rattle.stitch_cli.specs.declared.change_faults.ChangeFault.{ChangeFault}
+use Rattle.stitch_cli.specs.declared.change_faults.ChangeFault.TheVariants as reason
+use Rattle.stitch_cli.specs.ChangedDesigns.{Becomes, BecomesAll, RefitsTo}
 
 -- one value is one design, and not a refusal
 same_value : (r : Result DesignValue ChangeFault) (a b : DesignValue) → Ok a ≡ r → Ok b ≡ r → a ≡ b
@@ -18,9 +18,7 @@ not_value r a why one other = cc
 becomes_once : (limit : ℕ) (change : Change) (d a b : DesignValue) → Becomes limit change d (Ok a) → Becomes limit change d (Ok b) → a ≡ b
 becomes_once limit split d a b (short, one) (shorter, other) = one ∙ sym other
 becomes_once limit cut d a b (short, one) (shorter, other) = one ∙ sym other
-becomes_once limit (shift dx dy) d a b one other = same_value _ a b one other
-becomes_once limit (turn quarters) d a b one other = same_value _ a b one other
-becomes_once limit (mirror axis) d a b one other = same_value _ a b one other
+becomes_once limit (move by) d a b one other = same_value _ a b one other
 becomes_once limit (thread place number) d a b one other = same_value _ a b one other
 
 -- a refit that fits is not refused
@@ -35,9 +33,7 @@ becomes_not_both : (limit : ℕ) (change : Change) (d a : DesignValue) (why : Ch
     → Becomes limit change d (Err why) → ⊥
 becomes_not_both limit split d a why one other = refit_not_both mode.Split limit d a why one other
 becomes_not_both limit cut d a why one other = refit_not_both mode.Cut limit d a why one other
-becomes_not_both limit (shift dx dy) d a why one other = not_value _ a why one other
-becomes_not_both limit (turn quarters) d a why one other = not_value _ a why one other
-becomes_not_both limit (mirror axis) d a why one other = not_value _ a why one other
+becomes_not_both limit (move by) d a why one other = not_value _ a why one other
 becomes_not_both limit (thread place number) d a why one other = not_value _ a why one other
 
 -- changes in order make one design

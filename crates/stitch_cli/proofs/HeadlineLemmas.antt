@@ -3,7 +3,7 @@ use Rattle.std.proofs.Common.{◌≡◌, ℕ, Bool, true, false, nat_lt, List, [
 use Rattle.stitch_cli.proofs.Names.{AllZip, PieceCert, walks_of, cert_of, acts_of, drawing_of, Loaded, DrawingValue, piece_graph, Sews, Files, Makes, ProductValue, IsLeastPieceRoute, CheckOrder, check_cert, check_design, check_drawing, Order, plan_of, stitch, checking, sewing, IsRouteLeft, IsYesRight, IsSewnProduct, SewingOrder, sewing_by_limit, sewing_read, IsSewnBy, AllFilesHold, IsDone, IsCorrectPieceCert, OutcomesMeanHeadline, IsParsedMade, parsed_made}
 use Rattle.drawing_text.specs.ValidTexts.{TextsDefineValidDrawings}
 use Rattle.program_shell.specs.RunViews.{Views}
-use Rattle.route_texts.specs.declared.sewing_reports.Sewing.TheVariants as ways
+use Rattle.route_verdict.specs.declared.sewing_ways.Sewing.TheVariants as ways
 use Rattle.route_verdict.specs.VerdictTheorems.{CorrectRoutesAreAccepted, YesIsLeastRedwork}
 
 -- the certificate of a routed piece is correct

@@ -1,4 +1,7 @@
 pub mod Names
+mod EditLemmas
+mod ChangeFacts
+mod ChangeResultFacts
 mod ChangeLemmas
 mod CommandLemmas
 mod FormatLemmas

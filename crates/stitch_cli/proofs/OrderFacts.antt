@@ -1,8 +1,9 @@
 -- Worked values of complete requests.
 use Rattle.std.proofs.Common.{◌≡◌, ℕ, List, [], ◌∷◌, Some, None, refl}
 use Rattle.std.specs.Prelude.{codes}
-use Rattle.stitch_cli.proofs.Names.{cut, split, turn, Meaning, outputs_of, checking, hooping, migrating, rewriting, sampling, sewing, showing, tracing, order_of}
-use Rattle.route_texts.specs.declared.sewing_reports.Sewing.TheVariants as ways
+use Rattle.stitch_cli.proofs.Names.{cut, split, move, Meaning, outputs_of, checking, hooping, migrating, rewriting, sampling, sewing, showing, tracing, order_of}
+use Rattle.design_edits.specs.declared.motion.Motion.TheVariants as motion
+use Rattle.route_verdict.specs.declared.sewing_ways.Sewing.TheVariants as ways
 
 -- a format with another ending
 abbrev ending_as : Meaning → List ℕ → Meaning
@@ -111,7 +112,7 @@ pub known_edit : (m : Meaning)
       output = codes "b.dst";
       source = ending_as m (codes "dst");
       target = ending_as m (codes "dst");
-      changes = turn 1 ∷ [];
+      changes = move (motion.Turn 1) ∷ [];
     }))
 known_edit m = refl
 

@@ -4,7 +4,7 @@ use Rattle.stitch_cli.proofs.Names.{AllZip, certificate_text, cert_of, acts_of, 
 use Rattle.design_model.specs.declared.command.Command.TheVariants as command
 use Rattle.format_traits.specs.declared.fault.WriteFault.TheVariants as write
 use Rattle.line_graph.specs.Pieces.{ArePieces}
-use Rattle.route_texts.specs.declared.sewing_reports.Sewing.TheVariants as ways
+use Rattle.route_verdict.specs.declared.sewing_ways.Sewing.TheVariants as ways
 use Rattle.route_texts.specs.Reasons.{reason_text}
 use Rattle.route_verdict.specs.declared.verdict.Reason.{Reason}
 use Rattle.route_verdict.specs.declared.verdict.Reason.TheVariants as reason

@@ -1,8 +1,8 @@
 -- The result of rewriting, from the results of its steps.
 use Rattle.std.proofs.Common.{◌≡◌, ℕ, Result, Ok, Err, refl, subst, sym}
 use Rattle.stitch_cli.proofs.Names.{DesignValue, Loaded, StoreView, Failure, Product, RunsPurePlan, satisfies, IsRewriteResult, RewriteOrder, not_changed, not_written, IsPlanResult, IsChangesResult}
-use Rattle.design_changes.specs.declared.change_faults.ChangeFailure.{ChangeFailure}
-use Rattle.design_changes.specs.declared.change_faults.ChangeFailure.TheVariants as change_failure
+use Rattle.stitch_cli.specs.declared.change_faults.ChangeFailure.{ChangeFailure}
+use Rattle.stitch_cli.specs.declared.change_faults.ChangeFailure.TheVariants as change_failure
 use Rattle.program_shell.specs.declared.failure.Failure.TheVariants as failure
 use Rattle.stitch_cli.specs.RewriteSteps.{IsChangeFailure, IsEncodeResult}
 

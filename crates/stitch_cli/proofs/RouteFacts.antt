@@ -3,7 +3,7 @@ use Rattle.std.proofs.Common.{◌≡◌, ℕ, pos, [], ◌∷◌, ◌++◌, refl
 use Rattle.std.specs.Fmt.{digits}
 use Rattle.std.specs.Prelude.{codes}
 use Rattle.stitch_cli.proofs.Names.{PieceCert, newline, Point, DrawingValue, piece_reports, sewing_report}
-use Rattle.route_texts.specs.declared.sewing_reports.Sewing.TheVariants as ways
+use Rattle.route_verdict.specs.declared.sewing_ways.Sewing.TheVariants as ways
 
 abbrev at : ℕ → ℕ → Point
 at x y = record { x = pos x; y = pos y }

@@ -1,6 +1,7 @@
 -- What a sample makes, from what its steps make.
 use Rattle.std.proofs.Common.{◌≡◌, ℕ, ◌+◌, ◌*◌, List, [], ◌∷◌, length, All, refl, ap, ◌∙◌, arith}
-use Rattle.stitch_cli.proofs.Names.{All-head, All-tail, sum_by-cons, AllZip, sum_by, PieceCert, Piece, ArePiecesOf, graph_of, lines_of_pieces, DrawingValue, PieceValue, piece_graph, piece_cost, Routed, IsLeastPieceRoute, IsRouteOver, PieceReport, ProductValue, reports_from, piece_report, piece_reports, IsSampleProduct, SampleOrder, summary_of, penetrations_of, summary_text, one_file_product, cut_sum, sum_over_pieces, retraced_sum}
+use Rattle.route_verdict.specs.declared.sewing_ways.Sewing.TheVariants as ways
+use Rattle.stitch_cli.proofs.Names.{All-head, All-tail, sum_by-cons, AllZip, sum_by, PieceCert, Piece, ArePiecesOf, graph_of, lines_of_pieces, DrawingValue, PieceValue, piece_graph, piece_cost, Routed, IsLeastPieceRoute, IsSewnOver, PieceReport, ProductValue, reports_from, piece_report, piece_reports, IsSampleProduct, SampleOrder, summary_of, penetrations_of, summary_text, one_file_product, cut_sum, sum_over_pieces, retraced_sum}
 use Rattle.odd_cuts.specs.Cuts.{total_weight}
 use Rattle.drawing_text.specs.CanonicalTexts.{canonical_text}
 use Rattle.route_texts.specs.declared.summary.Summary.{Summary}
@@ -72,15 +73,15 @@ summary_is number d pieces certs cut best =
 
 -- The product of a sample is the canonical text of its drawing and the summary.
 pub sample_makes : (order : SampleOrder) (d : DrawingValue) (pieces : List Piece) (routed : Routed) (s : Summary) (text report : List ℕ)
-    (product : ProductValue) → ArePiecesOf d pieces → IsRouteOver d (lines_of_pieces pieces) routed
+    (product : ProductValue) → ArePiecesOf d pieces → IsSewnOver ways.Route d (lines_of_pieces pieces) routed
     → s ≡ sample_summary order.number (length d.lines) pieces (reports_from 1 pieces routed.cert.pieces) → text ≡ canonical_text d
     → report ≡ summary_text s → product ≡ one_file_product order.drawing text report → IsSampleProduct order d product
 sample_makes order d pieces routed s text report product cut route told spelled reported made = record {
   pieces = lines_of_pieces pieces;
   certs = routed.cert.pieces;
   pieces_are = route.pieces_are;
-  best = route.best;
+  best = route.each;
   made = made ∙ ap (λ (t : List ℕ). one_file_product order.drawing t report) spelled
       ∙ ap (one_file_product order.drawing (canonical_text d)) (reported
-      ∙ ap summary_text (told ∙ summary_is order.number d pieces routed.cert.pieces cut route.best));
+      ∙ ap summary_text (told ∙ summary_is order.number d pieces routed.cert.pieces cut route.each));
 }

@@ -1,39 +1,11 @@
 -- What sewing a drawing makes, from what its steps make.
 use Rattle.std.proofs.Common.{◌≡◌, ℕ, ◌+◌, ◌<◌, ◌≤◌, ◌^◌, List, [], ◌∷◌, length, All, refl, sym, ap, subst, ◌∙◌, arith}
-use Rattle.std.specs.Prelude.{Err, Ok, Result}
-use Rattle.stitch_cli.proofs.Names.{All-head, All-tail, sum_by-cons, AllZip, sum_by, PieceCert, walks_of, certificate_text, cert_of, IsPlain, Piece, ArePiecesOf, graph_of, lines_of_pieces, DrawingValue, PieceValue, piece_graph, piece_cost, Run, runs_of, ProductValue, Routed, IsRouteOver, PieceReport, Sewing, reports_from, piece_report, penetrations_of, sewing_report, IsSewnProduct, IsSewnFile, SewingOrder, piece_reports, IsSewnBy, IfOk, block_of_passes, two_file_product, IsDoubleOver, IsPieceSewn, IsSewnOver}
+use Rattle.std.specs.Prelude.{Ok}
+use Rattle.stitch_cli.proofs.Names.{All-head, All-tail, sum_by-cons, AllZip, sum_by, PieceCert, walks_of, certificate_text, cert_of, IsPlain, Piece, ArePiecesOf, graph_of, lines_of_pieces, DrawingValue, PieceValue, piece_graph, piece_cost, Run, runs_of, ProductValue, Routed, PieceReport, Sewing, reports_from, piece_report, penetrations_of, sewing_report, IsSewnProduct, IsSewnFile, SewingOrder, piece_reports, IsSewnBy, block_of_passes, two_file_product, IsPieceSewn, IsSewnOver}
 use Rattle.line_graph.specs.Walks.{needles_of_walk}
-use Rattle.route_texts.specs.declared.sewing_reports.Sewing.TheVariants as ways
+use Rattle.route_verdict.specs.declared.sewing_ways.Sewing.TheVariants as ways
 use Rattle.stitch_cli.proofs.SewnDesigns.{runs_are_plain}
 use Rattle.line_graph.proofs.CallerLemmas.{length_of_lists}
-
--- A route is one way to sew.
-pub sewn_by_route : (d : DrawingValue) (pieces : List (List ℕ)) (routed : Routed) → IsRouteOver d pieces routed
-    → IsSewnOver ways.Route d pieces routed
-sewn_by_route d pieces routed route = record {
-  pieces_are = route.pieces_are;
-  each = route.best;
-  canonical = route.canonical;
-  writable = route.writable;
-  design = route.design;
-}
-
-pub by_route : {E : Type 0} (d : DrawingValue) (pieces : List (List ℕ)) (result : Result Routed E) → IfOk result (IsRouteOver d pieces)
-    → IfOk result (IsSewnOver ways.Route d pieces)
-by_route d pieces (Ok routed) route = sewn_by_route d pieces routed route
-by_route d pieces (Err e) none = tt
-
--- A double run is the other.
-pub by_double : {E : Type 0} (d : DrawingValue) (pieces : List (List ℕ)) (result : Result Routed E) → IfOk result (IsDoubleOver d pieces)
-    → IfOk result (IsSewnOver ways.Double d pieces)
-by_double d pieces (Ok routed) double = record {
-  pieces_are = double.pieces_are;
-  each = double.each;
-  canonical = double.canonical;
-  writable = double.writable;
-  design = double.design;
-}
-by_double d pieces (Err e) none = tt
 
 -- The design is plain for a format whose limit is at least the step of the drawing.
 pub sewn_plain : (way : Sewing) (d : DrawingValue) (lines : List (List ℕ)) (routed : Routed) (limit : ℕ)

@@ -2,14 +2,9 @@
 use Rattle.std.proofs.Common.{◌≡◌, ◌++◌, refl}
 use Rattle.std.specs.Fmt.{digits}
 use Rattle.std.specs.Prelude.{codes}
-use Rattle.stitch_cli.proofs.Names.{newline, stitch, bad_line_text, change_text}
-use Rattle.design_changes.specs.declared.change_faults.ChangeFault.TheVariants as reason
+use Rattle.stitch_cli.proofs.Names.{newline, stitch, change_text}
+use Rattle.stitch_cli.specs.declared.change_faults.ChangeFault.TheVariants as reason
 use Rattle.program_shell.specs.Messages.{message_line}
-
--- A text that is not a certificate is reported with its line number.
-pub known_bad_line : bad_line_text (codes "a.cert") 12 ≡ codes "a.cert: line 12: not a certificate"
-unfolding digits
-known_bad_line = refl
 
 -- A refused refit is reported for the output, a refused edit for the input.
 pub known_refit : message_line stitch.name (change_text (codes "a") (codes "b") (reason.RefitTooMany 5))

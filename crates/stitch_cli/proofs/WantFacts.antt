@@ -1,7 +1,7 @@
 -- Out of memory is the only exception from the specification, in a run and in what it reads and makes.
 use Rattle.std.proofs.Common.{◌≡◌, [], ◌∷◌, true, false, map, refl}
 use Rattle.stitch_cli.proofs.Names.{draw_is_out_of_memory, status_is_out_of_memory, IsOrOutOfMemory, trace_is_out_of_memory}
-use Rattle.drawing_model.specs.declared.draw_kind.DrawKind.TheVariants as kind
+use Rattle.line_graph.specs.declared.draw_kind.DrawKind.TheVariants as kind
 use Rattle.outside_io.specs.Causes.{get_is_out_of_memory}
 use Rattle.outside_io.specs.declared.whole_files.GetFault.TheVariants as get
 use Rattle.program_shell.specs.declared.status.Status.TheVariants as status

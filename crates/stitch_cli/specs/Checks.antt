@@ -3,7 +3,7 @@
 use Rattle.std.specs.Prelude.{◌≡◌, ℕ, List, ◌++◌, Option, Some, None, Result, Ok, Err, codes}
 use Rattle.command_words.specs.declared.names.RouteNames.{RouteNames}
 use Rattle.odd_cuts.specs.declared.certificate.PieceCert.{PieceCert}
-use Rattle.lists_and_numbers.specs.TextLines.{newline}
+use Rattle.design_model.specs.TextLines.{newline}
 use Rattle.certificate_text.specs.ReadCertificates.{cert_of}
 use Rattle.design_model.specs.Designs.{DesignValue}
 use Rattle.drawing_text.specs.declared.draw_fault.DrawFault.{DrawFault}
@@ -11,14 +11,15 @@ use Rattle.drawing_text.specs.DrawingText.{drawing_of}
 use Rattle.format_traits.specs.declared.fault.ReadFault.{ReadFault}
 use Rattle.format_traits.specs.declared.loaded.Loaded.{Loaded}
 use Rattle.format_traits.specs.Meanings.{Meaning}
-use Rattle.drawing_model.specs.Drawings.{DrawingValue}
+use Rattle.line_graph.specs.Drawings.{DrawingValue}
 use Rattle.route_verdict.specs.declared.verdict.Reason.{Reason}
 use Rattle.route_verdict.specs.declared.verdict.Verdict.TheVariants as verdict
 use Rattle.route_verdict.specs.LeastRedwork.{IsLeastRedwork}
 use Rattle.route_verdict.specs.Verdicts.{IsVerdict}
 use Rattle.program_shell.specs.Plans.{Plan, satisfies, reads, refuses}
 use Rattle.program_shell.specs.Products.{ProductValue, report_product}
-use Rattle.program_shell.specs.FileTexts.{read_fault_text, text_at}
+use Rattle.program_shell.specs.FileTexts.{read_fault_text}
+use Rattle.program_inputs.specs.CertificateFiles.{bad_line_text}
 use Rattle.program_texts.specs.DrawingTexts.{draw_fault_text}
 use Rattle.route_texts.specs.Reasons.{reason_text}
 
@@ -44,10 +45,6 @@ abbrev pub complete_check : (drawing file cert : List ℕ) → Option Meaning �
 complete_check drawing file cert None = None
 complete_check drawing file cert (Some format) =
     Some (record { drawing = drawing; file = file; cert = cert; format = format })
-
--- The text about a line, numbered from 1, at which a text is not a certificate.
-abbrev pub bad_line_text : List ℕ → ℕ → List ℕ
-bad_line_text name number = text_at name (codes "line") number (codes "not a certificate")
 
 -- A passed check: the verdict is yes, and the design is least redwork. The report is the line
 -- `yes`.

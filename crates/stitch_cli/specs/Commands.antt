@@ -1,14 +1,14 @@
 -- The commands: the order that the arguments request, its plan, and the files that it writes.
 use Rattle.std.specs.Prelude.{ℕ, List, [], ◌∷◌, Option, Some, None, codes, option_map}
-use Rattle.command_words.specs.Arguments.{refit_changes}
+use Rattle.command_words.specs.RefitFlags.{refit_changes}
 use Rattle.command_words.specs.Requests.{RequestValue, parsed_request, check, convert, double, edit, hoop, migrate, route, sample, show, trace}
 use Rattle.format_traits.specs.Endings.{format_of}
 use Rattle.format_traits.specs.Meanings.{Meaning}
 use Rattle.program_shell.specs.Plans.{Plan}
 use Rattle.program_shell.specs.Programs.{Program}
 use Rattle.program_texts.specs.UsageText.{usage_text}
-use Rattle.route_texts.specs.declared.sewing_reports.Sewing.{Sewing}
-use Rattle.route_texts.specs.declared.sewing_reports.Sewing.TheVariants as ways
+use Rattle.route_verdict.specs.declared.sewing_ways.Sewing.{Sewing}
+use Rattle.route_verdict.specs.declared.sewing_ways.Sewing.TheVariants as ways
 use Rattle.stitch_cli.specs.Checks.{CheckOrder, check_plan, complete_check}
 use Rattle.stitch_cli.specs.Hoops.{HoopOrder, complete_hoop, hoop_plan}
 use Rattle.stitch_cli.specs.Migrations.{MigrateOrder, complete_migrate, migrate_plan}

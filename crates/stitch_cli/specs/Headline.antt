@@ -7,13 +7,13 @@ use Rattle.certificate_text.specs.ReadCertificates.{cert_of}
 use Rattle.drawing_text.specs.DrawingText.{drawing_of}
 use Rattle.format_traits.specs.declared.loaded.Loaded.{Loaded}
 use Rattle.format_traits.specs.Meanings.{Meaning}
-use Rattle.drawing_model.specs.Drawings.{DrawingValue}
+use Rattle.line_graph.specs.Drawings.{DrawingValue}
 use Rattle.outside_io.specs.Files.{Files, FileHolds}
 use Rattle.program_shell.specs.declared.status.Status.{Status}
 use Rattle.program_shell.specs.declared.status.Status.TheVariants as status
-use Rattle.program_shell.specs.Runs.{RunEnds}
+use Rattle.program_shell.specs.ProgramRuns.{RunEnds}
 use Rattle.program_shell.specs.RunViews.{Views}
-use Rattle.route_texts.specs.declared.sewing_reports.Sewing.TheVariants as ways
+use Rattle.route_verdict.specs.declared.sewing_ways.Sewing.TheVariants as ways
 use Rattle.route_verdict.specs.LeastRedwork.{IsLeastRedwork, IsLeastRoute}
 use Rattle.stitch_cli.specs.Checks.{CheckOrder}
 use Rattle.stitch_cli.specs.Commands.{Order, stitch, checking, sewing}

@@ -1,7 +1,6 @@
 -- Definitions of the crates below that public clauses use.
 pub use Rattle.command_words.specs.Changes
 pub use Rattle.command_words.specs.Requests
-pub use Rattle.design_changes.specs.ChangedDesigns
 pub use Rattle.certificate_text.specs.CertificateTexts
 pub use Rattle.program_shell.specs.FileTexts
 pub use Rattle.program_shell.specs.Messages
@@ -11,9 +10,9 @@ pub use Rattle.program_shell.specs.Programs
 pub use Rattle.program_shell.specs.Puts
 pub use Rattle.program_shell.specs.RunViews
 pub use Rattle.program_shell.specs.RunFailures
--- Read Headline first; then Runs of program_shell, the guarantees of each exit status; then
+-- Read Headline first; then ProgramRuns of program_shell, the guarantees of each exit status; then
 -- Commands and what it names.
-pub use Rattle.program_shell.specs.Runs
+pub use Rattle.program_shell.specs.ProgramRuns
 pub use Rattle.program_texts.specs.DesignReports
 pub use Rattle.program_texts.specs.DesignTexts
 pub use Rattle.program_texts.specs.DrawingTexts
@@ -25,6 +24,10 @@ pub use Rattle.route_texts.specs.PieceSums
 pub use Rattle.route_texts.specs.Reasons
 pub use Rattle.route_texts.specs.SewingReports
 pub use Rattle.route_texts.specs.Summaries
+-- What a design becomes between reading and writing.
+pub mod ChangedDesigns
+pub mod AppliedChanges
+pub mod ChangeSteps
 pub mod Sewings
 pub mod SewingWays
 pub mod Checks

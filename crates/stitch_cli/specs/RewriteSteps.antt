@@ -1,7 +1,7 @@
 -- The results of the inner steps of rewriting. No public clause refers to this file.
 use Rattle.std.specs.Prelude.{◌≡◌, ℕ, List, Result, Ok, Err}
-use Rattle.design_changes.specs.declared.change_faults.ChangeFailure.{ChangeFailure}
-use Rattle.design_changes.specs.declared.change_faults.ChangeFailure.TheVariants as change_failure
+use Rattle.stitch_cli.specs.declared.change_faults.ChangeFailure.{ChangeFailure}
+use Rattle.stitch_cli.specs.declared.change_faults.ChangeFailure.TheVariants as change_failure
 use Rattle.design_model.specs.Counts.{counts_of}
 use Rattle.design_model.specs.Designs.{DesignValue}
 use Rattle.format_traits.specs.declared.fault.WriteFault.{WriteFault}

@@ -10,9 +10,9 @@ use Rattle.format_traits.specs.Meanings.{Meaning}
 use Rattle.program_texts.specs.DesignReports.{written_report}
 use Rattle.command_words.specs.declared.names.FileNames.{FileNames}
 use Rattle.command_words.specs.Changes.{Change}
-use Rattle.design_changes.specs.declared.change_faults.ChangeFault.{ChangeFault}
-use Rattle.design_changes.specs.declared.change_faults.ChangeFault.TheVariants as change
-use Rattle.design_changes.specs.ChangedDesigns.{BecomesAll}
+use Rattle.stitch_cli.specs.declared.change_faults.ChangeFault.{ChangeFault}
+use Rattle.stitch_cli.specs.declared.change_faults.ChangeFault.TheVariants as change
+use Rattle.stitch_cli.specs.ChangedDesigns.{BecomesAll}
 use Rattle.program_shell.specs.Plans.{Plan, satisfies, reads, refuses}
 use Rattle.program_shell.specs.Products.{ProductValue, one_file_product}
 use Rattle.program_shell.specs.FileTexts.{read_fault_text}

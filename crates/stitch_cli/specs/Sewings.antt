@@ -7,7 +7,7 @@ use Rattle.design_model.specs.Acts.{acts_of}
 use Rattle.format_traits.specs.Laws.{MovesWithin}
 use Rattle.format_traits.specs.Meanings.{Meaning}
 use Rattle.line_graph.specs.declared.pass.Pass.{Pass}
-use Rattle.drawing_model.specs.Drawings.{DrawingValue}
+use Rattle.line_graph.specs.Drawings.{DrawingValue}
 use Rattle.line_graph.specs.PieceGraphs.{piece_graph}
 use Rattle.line_graph.specs.Runs.{Sews, sewn_design}
 use Rattle.drawing_text.specs.declared.draw_fault.DrawFault.{DrawFault}

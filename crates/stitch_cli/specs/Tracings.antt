@@ -4,7 +4,7 @@ use Rattle.drawing_text.specs.CanonicalTexts.{canonical_text2}
 use Rattle.format_traits.specs.declared.fault.ReadFault.{ReadFault}
 use Rattle.format_traits.specs.declared.loaded.Loaded.{Loaded}
 use Rattle.format_traits.specs.Meanings.{Meaning}
-use Rattle.drawing_model.specs.Drawings.{DrawingValue}
+use Rattle.line_graph.specs.Drawings.{DrawingValue}
 use Rattle.program_texts.specs.TracingReports.{tracing_report}
 use Rattle.stitch_trace.specs.declared.trace_fault.TraceFault.{TraceFault}
 use Rattle.stitch_trace.specs.Traces.{traced}

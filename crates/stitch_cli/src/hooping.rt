@@ -8,7 +8,8 @@ ghost use Rattle.stitch_cli.specs.Hoops.{complete_hoop, hoop_fitted};
 use format_traits::Format;
 use hoop_check::{Fit, fits};
 use outside_io::Store;
-use program_shell::{Failure, Made, bytes_of, load_found, only_report};
+use program_inputs::load_found;
+use program_shell::{Failure, Made, bytes_of, only_report};
 use program_texts::describe_too_large;
 use std::alloc::Global;
 

@@ -1,11 +1,15 @@
-//! The commands of the program: the steps of each over a store and two sinks.
+//! The commands of `stitch`: the steps of each over a store and two sinks.
 #![tactic(auto)]
 
+mod change_faults;
+mod changes;
 mod checking;
 mod commands;
+mod edits;
 mod headline;
 mod hooping;
 mod migrating;
+mod refits;
 mod rewriting;
 mod running;
 mod sampling;
@@ -13,6 +17,7 @@ mod sewing;
 mod showing;
 mod tracing;
 
+pub use command_words::{Request, request};
 pub use headline::outcomes_mean_headline;
 pub use program_shell::{Failure, Output, Product, Status};
 pub use program_texts::USAGE;

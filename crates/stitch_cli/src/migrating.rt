@@ -7,14 +7,13 @@ ghost use Rattle.stitch_cli.specs.Commands.{stitch, migrating};
 ghost use Rattle.stitch_cli.specs.Migrations.{IsMigrated, complete_migrate, migrate_order, migrate_plan};
 
 use command_words::FileNames;
-use drawing_inputs::drawing_as2_in;
-use drawing_model::Drawing;
+use design_model::Memory;
 use drawing_text::print_drawing2;
-use line_graph::pieces;
-use lists_and_numbers::Memory;
+use line_graph::{Drawing, pieces};
 use outside_io::Store;
+use program_inputs::drawing_as2_in;
 use program_shell::{Failure, Made, Product, one_output};
-use program_texts::print_migration;
+use program_texts::describe_migration;
 use std::alloc::Global;
 
 /// Rewrites a drawing as the canonical text of version 2, and reports on it.
@@ -46,7 +45,7 @@ fn migrated<'a>(alloc: Global, output: &'a str, drawing: &Drawing) -> Result<Pro
     ensures { IfOk result (λ product. IsMigrated output.now drawing.now (product_value product)) }
 {
     let pieces = pieces(alloc, drawing)?;
-    let report = print_migration(alloc, drawing, pieces.len())?;
+    let report = describe_migration(alloc, drawing, pieces.len())?;
     let content = print_drawing2(alloc, drawing)?;
     let product = one_output(alloc, output, content, report)?;
     Ok(product)

@@ -1,23 +1,24 @@
 ghost use Rattle.command_words.specs.ValidNames.{AreFileNames};
-ghost use Rattle.design_changes.specs.AppliedChanges.{AreValidChanges, change_list};
 ghost use Rattle.format_traits.specs.Endings.{format_of};
 ghost use Rattle.format_traits.specs.Meanings.{Meaning};
 ghost use Rattle.outside_io.specs.Files.{IsFileName};
 ghost use Rattle.program_shell.specs.Plans.{satisfies};
 ghost use Rattle.program_shell.specs.StepOutcomes.{IsRefusalWith, RunsPlan, RunsPurePlan, RunsRequest};
 ghost use Rattle.std.specs.Prelude.{◌≡◌, ◌<◌, IfOk, Some, length, map, option_map, slice_get, string_bytes};
+ghost use Rattle.stitch_cli.specs.AppliedChanges.{AreValidChanges, change_list};
 ghost use Rattle.stitch_cli.specs.Commands.{stitch, rewriting};
 ghost use Rattle.stitch_cli.specs.RewriteSteps.{IsChangeFailure, IsEncodeResult};
 ghost use Rattle.stitch_cli.specs.Rewrites.{IsRewriteResult, change_text, complete_rewrite, rewrite_order, rewrite_plan};
 
+use crate::change_faults::{ChangeFailure, ChangeFault};
+use crate::changes::{Changes, changed};
 use command_words::FileNames;
-use design_changes::{ChangeFailure, ChangeFault, Changes, changed};
-use design_model::{Design, counts};
+use design_model::{Design, Memory, counts};
 use format_traits::{Format, Loaded, WriteFault, encode_by, find, limit_of};
-use lists_and_numbers::Memory;
 use outside_io::Store;
-use program_shell::{Failure, Made, format_at, load_at, one_output, refused};
-use program_texts::{describe_command, describe_no_place, describe_write_fault, print_written};
+use program_inputs::{format_at, load_at};
+use program_shell::{Failure, Made, one_output, refused};
+use program_texts::{describe_command, describe_no_place, describe_write_fault, describe_written};
 use std::alloc::Global;
 
 /// The indexes of the formats of an input and of an output in the list of formats.
@@ -53,8 +54,8 @@ pub(crate) fn rewrite<'a, S: Store>(
     let Some(target) = find(formats, names.output) else {
         return Err(Failure::BadArguments);
     };
-    let places = FormatIndexes { source, target };
-    rewrite_by(alloc, names, formats, places, changes, store)
+    let indexes = FormatIndexes { source, target };
+    rewrite_by(alloc, names, formats, indexes, changes, store)
 }
 
 /// Rewrites a file by the two formats, given by their indexes. They may be one.
@@ -62,27 +63,27 @@ fn rewrite_by<'a, S: Store>(
     alloc: Global,
     names: FileNames<'a>,
     formats: &mut [Box<dyn Format>],
-    places: FormatIndexes,
+    indexes: FormatIndexes,
     changes: &Changes<'_>,
     store: &mut S,
 ) -> Made<'a>
     requires names { AreFileNames names }
-    requires source { places.source < length formats.old }
-    requires target { places.target < length formats.old }
+    requires source { indexes.source < length formats.old }
+    requires target { indexes.target < length formats.old }
     requires changes { AreValidChanges changes.now }
     ensures prepares { (s t : Meaning)
-        → slice_get (map (λ f. meaning f) formats.old) places.source ≡ Some s
-        → slice_get (map (λ f. meaning f) formats.old) places.target ≡ Some t
+        → slice_get (map (λ f. meaning f) formats.old) indexes.source ≡ Some s
+        → slice_get (map (λ f. meaning f) formats.old) indexes.target ≡ Some t
         → RunsPlan (rewrite_plan (rewrite_order names.entry s t (change_list changes.now)))
         (S.view store.old) (S.view store.new) result }
     ensures same { map (λ f. meaning f) formats.new ≡ map (λ f. meaning f) formats.old }
 {
-    let loaded = load_at(alloc, formats, places.source, store, names.input)?;
+    let loaded = load_at(alloc, formats, indexes.source, store, names.input)?;
     rewrite_loaded(
         alloc,
         names,
         loaded,
-        format_at(formats, places.target),
+        format_at(formats, indexes.target),
         changes,
     )
 }
@@ -159,7 +160,7 @@ fn encoded_product<'a>(
 {
     match encode_by(alloc, target, design) {
         Ok(content) => {
-            let report = print_written(alloc, counts(design))?;
+            let report = describe_written(alloc, counts(design))?;
             let product = one_output(alloc, name, content, report)?;
             Ok(product)
         }

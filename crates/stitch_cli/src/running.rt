@@ -1,5 +1,5 @@
+ghost use Rattle.program_shell.specs.ProgramRuns.{RunEnds};
 ghost use Rattle.program_shell.specs.RunViews.{views_of};
-ghost use Rattle.program_shell.specs.Runs.{RunEnds};
 ghost use Rattle.std.specs.Prelude.{◌≡◌, codes, map, string_bytes};
 ghost use Rattle.stitch_cli.specs.Commands.{order_of, stitch};
 ghost use Rattle.stitch_cli.specs.Headline.{ChecksRightly, RoutesLeast};

@@ -1,4 +1,4 @@
-ghost use Rattle.drawing_model.specs.WalkEnds.{HasNoEnds};
+ghost use Rattle.line_graph.specs.WalkEnds.{HasNoEnds};
 ghost use Rattle.outside_io.specs.Files.{IsFileName};
 ghost use Rattle.program_shell.specs.Products.{product_value};
 ghost use Rattle.program_shell.specs.StepOutcomes.{RunsPurePlan};
@@ -7,13 +7,13 @@ ghost use Rattle.sample_drawings.specs.declared.draws.TheConstants.{MAX_NUMBER};
 ghost use Rattle.std.specs.Prelude.{◌≤◌, IfOk};
 ghost use Rattle.stitch_cli.specs.Samples.{IsSampleProduct, sample_order, sample_plan};
 
-use drawing_model::Drawing;
+use design_model::Memory;
 use drawing_text::print_drawing;
-use line_graph::pieces;
-use lists_and_numbers::Memory;
+use line_graph::{Drawing, pieces};
 use program_shell::{Made, Product, one_output};
-use route_core::route_pieces;
-use route_texts::{print_summary, summary_of};
+use route_core::sew_pieces;
+use route_texts::{describe_summary, summary_of};
+use route_verdict::Sewing;
 use sample_drawings::sample_drawing;
 use std::alloc::Global;
 
@@ -51,7 +51,7 @@ fn reported<'a>(
         (product_value product)) }
 {
     let pieces = pieces(alloc, drawing)?;
-    let routed = route_pieces(alloc, drawing, pieces.as_slice())?;
+    let routed = sew_pieces(alloc, Sewing::Route, drawing, pieces.as_slice())?;
     let summary = summary_of(
         alloc,
         number,
@@ -60,7 +60,7 @@ fn reported<'a>(
         routed.cert.pieces.as_slice(),
     )?;
     let content = print_drawing(alloc, drawing)?;
-    let report = print_summary(alloc, summary)?;
+    let report = describe_summary(alloc, summary)?;
     let product = one_output(alloc, name, content, report)?;
     Ok(product)
 }

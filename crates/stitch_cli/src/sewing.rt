@@ -2,7 +2,6 @@ ghost use Rattle.command_words.specs.ValidNames.{AreRouteNames};
 ghost use Rattle.format_traits.specs.Endings.{format_of};
 ghost use Rattle.format_traits.specs.PlainDesigns.{IsPlain};
 ghost use Rattle.format_traits.specs.declared.format_object.TheConstants.{MIN_LIMIT};
-ghost use Rattle.line_graph.specs.PiecesOfDrawings.{ArePiecesOf, lines_of_pieces};
 ghost use Rattle.line_graph.specs.Runs.{AreWritable, runs_of, sewn_design};
 ghost use Rattle.odd_cuts.specs.Certificates.{walks_of};
 ghost use Rattle.program_shell.specs.Products.{product_value, two_file_product};
@@ -10,21 +9,21 @@ ghost use Rattle.program_shell.specs.StepOutcomes.{RunsPlan, RunsPurePlan, RunsR
 ghost use Rattle.std.specs.Bool.{OnTrue};
 ghost use Rattle.std.specs.Prelude.{◌≡◌, ◌≢◌, ◌≤◌, IfOk, map, option_map};
 ghost use Rattle.stitch_cli.specs.Commands.{stitch, sewing};
-ghost use Rattle.stitch_cli.specs.SewingWays.{IsSewnBy, IsSewnOver};
+ghost use Rattle.stitch_cli.specs.SewingWays.{IsSewnBy};
 ghost use Rattle.stitch_cli.specs.Sewings.{IsSewnProduct, IsSewnFile, complete_sewing, names_differ, sewing_drawing, sewing_order, sewing_plan};
 
 use certificate_text::print_cert;
 use command_words::RouteNames;
-use drawing_inputs::drawing_in;
-use drawing_model::Drawing;
+use design_model::{Bytes, Memory};
 use format_traits::{Format, WriteFault, encode_by, ext_of, find, limit_of};
-use line_graph::{Piece, pieces, runs_are_sewn};
-use lists_and_numbers::{Bytes, Memory};
+use line_graph::{Drawing, pieces, runs_are_sewn};
 use outside_io::Store;
-use program_shell::{Failure, Made, Output, Product, format_at, two_outputs};
+use program_inputs::{drawing_in, format_at};
+use program_shell::{Failure, Made, Output, Product, two_outputs};
 use program_texts::describe_step;
-use route_core::{Routed, double_pieces, route_pieces};
-use route_texts::{Sewing, print_sewing};
+use route_core::{Routed, sew_pieces};
+use route_texts::describe_sewing;
+use route_verdict::Sewing;
 use std::alloc::Global;
 
 /// Sews a drawing that way: makes its certificate, the file of the design that sews it, and the report.
@@ -45,7 +44,7 @@ pub(crate) fn sew<'a, S: Store>(
         return Err(Failure::BadArguments);
     }
     match find(formats, names.design) {
-        Some(place) => sew_by(alloc, way, names, format_at(formats, place), store),
+        Some(index) => sew_by(alloc, way, names, format_at(formats, index), store),
         None => Err(Failure::BadArguments),
     }
 }
@@ -112,28 +111,12 @@ fn sewn<'a>(
         (product_value product)) }
 {
     let pieces = pieces(alloc, drawing)?;
-    let routed = walks_over(alloc, way, drawing, pieces.as_slice())?;
+    let routed = sew_pieces(alloc, way, drawing, pieces.as_slice())?;
     let design_file = encoded(alloc, format, drawing, &routed)?;
     let cert_text = print_cert(alloc, &routed.cert)?;
-    let report = print_sewing(alloc, way, pieces.as_slice(), routed.cert.pieces.as_slice())?;
+    let report = describe_sewing(alloc, way, pieces.as_slice(), routed.cert.pieces.as_slice())?;
     let product = sewn_product(alloc, names, cert_text, design_file, report)?;
     Ok(product)
-}
-
-/// Returns the walks over the pieces of a drawing, that way, and the design that sews them.
-fn walks_over(
-    alloc: Global,
-    way: Sewing,
-    drawing: &Drawing,
-    pieces: &[Piece],
-) -> Result<Routed, Memory>
-    requires { ArePiecesOf drawing.now pieces.now }
-    ensures { IfOk result (IsSewnOver way drawing.now (lines_of_pieces pieces.now)) }
-{
-    match way {
-        Sewing::Route => route_pieces(alloc, drawing, pieces),
-        Sewing::Double => double_pieces(alloc, drawing, pieces),
-    }
 }
 
 /// Returns the product of a certificate, which is written first, a design file and a report.

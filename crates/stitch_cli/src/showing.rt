@@ -7,8 +7,9 @@ ghost use Rattle.stitch_cli.specs.Shows.{complete_show, show_order, show_read};
 
 use format_traits::{Format, Loaded, ext_of};
 use outside_io::Store;
-use program_shell::{Made, format_at, load_found, only_report};
-use program_texts::print_loaded;
+use program_inputs::{format_at, load_found};
+use program_shell::{Made, only_report};
+use program_texts::describe_loaded;
 use std::alloc::Global;
 
 /// Makes the report on the contents of a file.
@@ -25,12 +26,12 @@ pub(crate) fn show<'a, S: Store>(
     ensures same { map (λ f. meaning f) formats.new ≡ map (λ f. meaning f) formats.old }
 {
     let found = load_found(alloc, formats, store, file)?;
-    shown(alloc, file, format_at(formats, found.place), &found.loaded)
+    shown(alloc, file, format_at(formats, found.index), &found.loaded)
 }
 
 fn shown<'a>(alloc: Global, file: &'a str, format: &Box<dyn Format>, loaded: &Loaded) -> Made<'a>
     ensures { RunsPurePlan (show_read (show_order file.now (meaning format.now)) (Ok loaded.now)) result }
 {
-    let report = print_loaded(alloc, ext_of(format), loaded)?;
+    let report = describe_loaded(alloc, ext_of(format), loaded)?;
     Ok(only_report(alloc, report))
 }

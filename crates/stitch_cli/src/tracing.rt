@@ -11,14 +11,14 @@ ghost use Rattle.stitch_cli.specs.Tracings.{IsTraced, complete_trace, trace_made
 ghost use Rattle.stitch_trace.specs.Traces.{traced};
 
 use command_words::FileNames;
-use design_model::Design;
-use drawing_model::Drawing;
+use design_model::{Design, Memory};
 use drawing_text::print_drawing2;
 use format_traits::Format;
-use lists_and_numbers::Memory;
+use line_graph::Drawing;
 use outside_io::Store;
-use program_shell::{Failure, Made, Product, load_found, one_output, refused};
-use program_texts::{describe_trace_fault, print_tracing};
+use program_inputs::load_found;
+use program_shell::{Failure, Made, Product, one_output, refused};
+use program_texts::{describe_trace_fault, describe_tracing};
 use std::alloc::Global;
 use stitch_trace::{TraceFault, trace};
 
@@ -74,7 +74,7 @@ fn traced_product<'a>(
     requires { IsJoinedWithoutEnds drawing.now }
     ensures { IfOk result (λ product. IsTraced name.now drawing.now (product_value product)) }
 {
-    let report = print_tracing(alloc, drawing)?;
+    let report = describe_tracing(alloc, drawing)?;
     let content = print_drawing2(alloc, drawing)?;
     let product = one_output(alloc, name, content, report)?;
     Ok(product)

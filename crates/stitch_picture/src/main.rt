@@ -2,19 +2,11 @@
 //! Creates the formats, and runs over the real files and streams.
 #![tactic(auto)]
 
-mod drawing;
-mod drawn;
-mod proving;
-mod running;
-#[cfg(test)]
-mod tests;
-mod words;
-
-use crate::running::{PROGRAM, run};
 use dst_codec::Dst;
 use exp_codec::Exp;
 use format_traits::Format;
-use pec_pes_codec::{Pec, Pes};
+use pes_codec::{Pec, Pes};
+use picture_commands::{PROGRAM, run};
 use program_shell::start;
 use std::process::ExitCode;
 use stitch_text::List;

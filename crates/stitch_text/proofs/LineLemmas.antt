@@ -2,8 +2,8 @@
 use Rattle.std.proofs.Common.{◌≡◌, ℕ, ℤ, pos, negsuc, ◌<◌, ◌≤◌, ◌==◌, Bool, true, false, nat_le, nat_lt, unsigned_abs, List, [], ◌∷◌, ◌++◌, None, Some, All, IsTrue, bytes_eq, codes, length, length-append, if◌then◌else◌, subst, ap, sym, refl, ◌∙◌, arith}
 use Rattle.std.specs.Fmt.{decimal}
 use Rattle.stitch_text.proofs.Names.{ints, and_from, and_parts, not-true, nat_tests, list_all-append, join_with_byte-slice_split, slice_split_at, AllPass-from_list_all, same_Some, signed_decimal, join_with_byte, list_all, Point, NEEDLE_LIMIT, is_point_within, ListLine, MAX_LINE, parsed_list_line, parsed_list_words, canonical_number_of, words_in, is_word_byte, is_line_byte, length_signed_le, All-weaker, slice_split_none, none-some, parsed_block, parsed_needle, parsed_list_word, needle_line, point_line, same_word, inner_kept, no_space}
-use Rattle.lists_and_numbers.specs.declared.whole_number.Whole.{Whole}
-use Rattle.lists_and_numbers.specs.declared.whole_number.Whole.TheVariants as whole
+use Rattle.design_model.specs.declared.whole_number.Whole.{Whole}
+use Rattle.design_model.specs.declared.whole_number.Whole.TheVariants as whole
 use Rattle.stitch_text.specs.declared.list_line.ListLine.TheVariants as line
 use Rattle.stitch_text.proofs.NumberLemmas.{number_is, number_read, signed_inner}
 

@@ -36,7 +36,7 @@ pub use Rattle.format_traits.specs.declared.encoder_state.EncoderState.{EncoderS
 pub use Rattle.format_traits.specs.declared.fault.ReadFault.{ReadFault}
 pub use Rattle.format_traits.specs.declared.fault.WriteFault.{WriteFault}
 pub use Rattle.format_traits.specs.declared.loaded.Loaded.{Loaded}
-pub use Rattle.lists_and_numbers.proofs.CallerLemmas.{decimal_model, false_true, same_word, signed_read}
+pub use Rattle.design_model.proofs.ListLemmas.{decimal_model, false_true, same_word, signed_read}
 pub use Rattle.stitch_text.specs.Format.{list_meaning}
 pub use Rattle.stitch_text.specs.Judging.{draft_after_line, draft_with_checked_act, fault_of_act, list_commands_of, unless_fault, with_act}
 pub use Rattle.stitch_text.specs.Judging.{with_block_thread}

@@ -4,8 +4,8 @@ use Rattle.std.specs.Fmt.{decimal}
 use Rattle.std.specs.Str.{all_ascii_digits}
 use Rattle.std.specs.Str.Parse.{digits_value}
 use Rattle.stitch_text.proofs.Names.{ints, not-true, nat_tests, signed_decimal, list_all, canonical_number_of, is_word_byte, cases_order, decimal-digits_value, decimal_digit, digits_decimal, first_decimal, has_leading_zero, is_canonical_number, decimal_model, signed_read, digits_inner}
-use Rattle.lists_and_numbers.specs.declared.whole_number.Whole.TheVariants as whole
-use Rattle.lists_and_numbers.specs.WholeNumbers.{is_digit_string, signed_number, parsed_digits, parsed_whole}
+use Rattle.design_model.specs.declared.whole_number.Whole.TheVariants as whole
+use Rattle.design_model.specs.WholeNumbers.{is_digit_string, signed_number, parsed_digits, parsed_whole}
 
 -- and so is a number
 pub signed_inner : (z : ℤ) → unsigned_abs z < 2 ^ 63 → list_all is_word_byte (signed_decimal z) ≡ true

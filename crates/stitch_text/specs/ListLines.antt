@@ -1,7 +1,7 @@
 -- The parsing of one line of a list. A line is its bytes without the byte 10 that ends it.
 use Rattle.std.specs.Prelude.{ℕ, ◌-◌, ◌&&◌, pos, Bool, true, false, List, [], ◌∷◌, Option, Some, None, bytes_eq, codes, drop, length, nat_le, nat_lt, take, if◌then◌else◌}
-use Rattle.lists_and_numbers.specs.declared.whole_number.Whole.{Whole}
-use Rattle.lists_and_numbers.specs.declared.whole_number.Whole.TheVariants as whole
+use Rattle.design_model.specs.declared.whole_number.Whole.{Whole}
+use Rattle.design_model.specs.declared.whole_number.Whole.TheVariants as whole
 use Rattle.stitch_text.specs.declared.list_line.ListLine.{ListLine}
 use Rattle.stitch_text.specs.declared.list_line.ListLine.TheVariants as line
 use Rattle.stitch_text.specs.declared.list_line.TheConstants.{MAX_LINE}

@@ -2,9 +2,9 @@
 use Rattle.std.specs.Prelude.{ℕ, ◌-◌, ◌==◌, ◌&&◌, ◌||◌, Bool, false, not, List, [], ◌∷◌, length, get_or, nat_le, if◌then◌else◌}
 use Rattle.std.specs.List.{list_all}
 use Rattle.design_model.specs.declared.design.TheConstants.{MAX_LABEL}
-use Rattle.lists_and_numbers.specs.declared.whole_number.Whole.{Whole}
-use Rattle.lists_and_numbers.specs.declared.whole_number.Whole.TheVariants as whole
-use Rattle.lists_and_numbers.specs.WholeNumbers.{parsed_whole}
+use Rattle.design_model.specs.declared.whole_number.Whole.{Whole}
+use Rattle.design_model.specs.declared.whole_number.Whole.TheVariants as whole
+use Rattle.design_model.specs.WholeNumbers.{parsed_whole}
 
 -- True where the first digit is a zero (48).
 abbrev pub has_leading_zero : List ℕ → Bool

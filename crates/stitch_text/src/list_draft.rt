@@ -12,9 +12,8 @@ ghost use Rattle.stitch_text.specs.declared.list_line.ListLine.TheVariants as li
 
 use crate::list_line::ListLine;
 use crate::stitch_list::{LIMIT, write_limits};
-use design_model::{Act, Command, Design, NEEDLE_LIMIT, Point};
+use design_model::{Act, Command, Design, Memory, NEEDLE_LIMIT, Point};
 use format_traits::{EncoderState, ReadFault, WriteFault};
-use lists_and_numbers::Memory;
 use std::alloc::Global;
 
 /// The design of the lines that were read, and the encoder's state after its acts.

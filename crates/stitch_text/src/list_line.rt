@@ -5,8 +5,7 @@ ghost use Rattle.stitch_text.specs.declared.list_line.ListLine.TheVariants as li
 ghost use Rattle.text_parts.specs.Parts.{words_in};
 
 use crate::words::number_in;
-use design_model::Point;
-use lists_and_numbers::Whole;
+use design_model::{Point, Whole};
 use text_parts::{equals_text, split_first};
 
 /// The most bytes of a line, without the byte that ends it.

@@ -2,9 +2,8 @@ ghost use Rattle.std.specs.Fmt.{signed_decimal};
 ghost use Rattle.std.specs.Prelude.{◌≡◌, ◌≤◌, ◌<◌, ◌+◌, ◌∷◌, ◌++◌, [], drop, length, OnOk};
 ghost use Rattle.stitch_text.specs.StitchLists.{point_line};
 
-use design_model::Point;
+use design_model::{Bytes, Memory, Point};
 use itoa::write_digits;
-use lists_and_numbers::{Bytes, Memory};
 
 /// More bytes than two numbers, a space before each and the end of the line need.
 const ROOM: usize = 32;

@@ -4,9 +4,8 @@ ghost use Rattle.stitch_text.specs.StitchLists.{list_write_limits};
 
 use crate::list_decoder::ListDecoder;
 use crate::writing::write_file;
-use design_model::Design;
+use design_model::{Bytes, Design};
 use format_traits::{Codec, FedFormat, WriteFault, WriteLimits};
-use lists_and_numbers::Bytes;
 use std::alloc::Global;
 
 /// The greatest move of a stitch on each axis, in tenths of a millimetre.

@@ -2,8 +2,7 @@ ghost use Rattle.std.specs.List.{list_all};
 ghost use Rattle.std.specs.Prelude.{◌≡◌};
 ghost use Rattle.stitch_text.specs.Words.{has_leading_zero, has_trailing_space, is_valid_label, is_canonical_number, is_printable, canonical_number_of};
 
-use design_model::MAX_LABEL;
-use lists_and_numbers::{Whole, parse_whole};
+use design_model::{MAX_LABEL, Whole, parse_whole};
 
 /// Returns the number of a word of any length, if the word is the canonical text of a number.
 pub(crate) fn number_in(word: &[u8]) -> Whole

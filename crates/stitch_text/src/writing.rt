@@ -9,9 +9,8 @@ ghost use Rattle.stitch_text.specs.StitchLists.{list_block_line, with_head_lines
 use crate::point_line::put_point;
 use crate::stitch_list::write_limits;
 use crate::theorems::written_reads_again;
-use design_model::{Act, Design};
+use design_model::{Act, Bytes, Design, Memory, put_decimal};
 use format_traits::{ActWriter, EncoderState, WriteFault, WriteLimits, put_each_act};
-use lists_and_numbers::{Bytes, Memory, put_decimal};
 use std::alloc::Global;
 
 /// Writes a design as a list.

@@ -1,7 +1,7 @@
 -- A drawing that strands are added to has their links, and so have its sections.
 use Rattle.std.proofs.Common.{◌≡◌, ℕ, ◌+◌, ◌-◌, ◌==◌, Bool, true, false, not, cond, nat_lt, List, [], ◌∷◌, ◌++◌, length, map, flat_map, Result, Ok, Err, ap, sym, subst, ◌∙◌, refl, append_assoc, append-nil, length-append, arith}
 use Rattle.stitch_trace.proofs.Names.{nat_tests, ap₂, flat_map-append, map-append, NumberedAct, Point, acts_of, blocks_of, DesignValue, thread_of, LineValue, SectionsKeepSegments, DrawKind, DrawingValue, and_then, all_in_needle_range, block_added, empty_drawing, finished_drawing, is_last_empty, line_added, point_count, with_new_block, with_new_line, joined_drawing, Link, Strand, TraceFault, chains_of, has_links, new_links_of, BlockLink, drawn_block_count, drawn_links, in_block, link_between, links_along, sewn_links, needle_moves_of, chains_added, drawing_with_strands, label_first_word, with_limit_fault, and_then_trace, trace_step, strand_added, strand_of, strands_added, strands_from, strands_of, all_sections, is_shared_point, line_sections, lines_through, sections_of, segments_of, steps_with_line, LinksAreDrawn}
-use Rattle.drawing_model.specs.declared.draw_kind.DrawKind.TheVariants as kind
+use Rattle.line_graph.specs.declared.draw_kind.DrawKind.TheVariants as kind
 use Rattle.stitch_trace.proofs.LinkedLemmas.{chains_links, chains_where_links, has_chains}
 
 -- what is Ok is one thing, and no Err

@@ -18,17 +18,17 @@ pub use Rattle.design_model.specs.declared.act.Act.{Act}
 pub use Rattle.design_model.specs.declared.act.NumberedAct.{NumberedAct}
 pub use Rattle.design_model.specs.declared.command.Command.{Command}
 pub use Rattle.design_model.specs.declared.point.Point.{Point}
-pub use Rattle.drawing_model.specs.Drawings.{DrawingValue, last_point}
-pub use Rattle.drawing_model.specs.GrowingDrawings.{all_in_needle_range, and_then, block_added, empty_drawing, finished_drawing}
-pub use Rattle.drawing_model.specs.GrowingDrawings.{has_repeated_point, is_last_empty, line_added, point_count, repeats_after, step_count}
-pub use Rattle.drawing_model.specs.GrowingDrawings.{steps_with_line, with_new_block, with_new_line}
-pub use Rattle.drawing_model.specs.JoinedDrawings.{joined_drawing}
-pub use Rattle.drawing_model.specs.Needles.{segment_steps, steps_of_line}
-pub use Rattle.drawing_model.specs.declared.draw_kind.DrawKind.{DrawKind}
+pub use Rattle.line_graph.specs.Drawings.{DrawingValue, last_point}
+pub use Rattle.line_graph.specs.GrowingDrawings.{all_in_needle_range, and_then, block_added, empty_drawing, finished_drawing}
+pub use Rattle.line_graph.specs.GrowingDrawings.{has_repeated_point, is_last_empty, line_added, point_count, repeats_after, step_count}
+pub use Rattle.line_graph.specs.GrowingDrawings.{steps_with_line, with_new_block, with_new_line}
+pub use Rattle.line_graph.specs.JoinedDrawings.{joined_drawing}
+pub use Rattle.line_graph.specs.Needles.{segment_steps, steps_of_line}
+pub use Rattle.line_graph.specs.declared.draw_kind.DrawKind.{DrawKind}
 pub use Rattle.line_sections.specs.Lines.{LineValue}
 pub use Rattle.line_sections.specs.Sections.{SectionsKeepSegments, all_sections, is_shared_point, line_sections, lines_through, sections_of}
 pub use Rattle.line_sections.specs.Sections.{segments_from, segments_of}
-pub use Rattle.lists_and_numbers.proofs.CallerLemmas.{and_false, no_difference, some_same}
+pub use Rattle.design_model.proofs.ListLemmas.{and_false, no_difference, some_same}
 pub use Rattle.step_splitter.specs.Chains.{last_point_or}
 pub use Rattle.step_splitter.specs.Steps.{steps_of}
 pub use Rattle.stitch_trace.specs.Chains.{chains_of, has_links, is_gap, is_sewn, new_links_of, new_moves, new_moves_of, points_through}

@@ -2,7 +2,7 @@
 use Rattle.std.proofs.Common.{◌≡◌, ◌∷◌, [], ℕ, true, false, pos, codes, List, Ok, Err, refl}
 use Rattle.stitch_trace.proofs.Names.{Command, Point, DesignValue, LineValue, DrawingValue, acts_of, blocks_of, Link, BlockLink, IsCountLimit, are_distinct, drawn_links, is_one_step, sewn_links, label_first_word, traced}
 use Rattle.design_model.specs.declared.command.Command.TheVariants as command
-use Rattle.drawing_model.specs.declared.draw_kind.DrawKind.TheVariants as kind
+use Rattle.line_graph.specs.declared.draw_kind.DrawKind.TheVariants as kind
 use Rattle.stitch_trace.specs.declared.trace_fault.TraceFault.TheVariants as fault
 
 -- a place on the cloth

@@ -7,11 +7,11 @@ use Rattle.design_model.specs.declared.point.Point.{Point}
 use Rattle.design_model.specs.Acts.{acts_of}
 use Rattle.design_model.specs.Blocks.{blocks_of}
 use Rattle.design_model.specs.Designs.{DesignValue, thread_of}
-use Rattle.drawing_model.specs.declared.draw_kind.DrawKind.{DrawKind}
-use Rattle.drawing_model.specs.declared.draw_kind.DrawKind.TheVariants as kind
-use Rattle.drawing_model.specs.Drawings.{DrawingValue}
-use Rattle.drawing_model.specs.GrowingDrawings.{and_then, block_added, empty_drawing, finished_drawing, line_added}
-use Rattle.drawing_model.specs.JoinedDrawings.{joined_drawing}
+use Rattle.line_graph.specs.declared.draw_kind.DrawKind.{DrawKind}
+use Rattle.line_graph.specs.declared.draw_kind.DrawKind.TheVariants as kind
+use Rattle.line_graph.specs.Drawings.{DrawingValue}
+use Rattle.line_graph.specs.GrowingDrawings.{and_then, block_added, empty_drawing, finished_drawing, line_added}
+use Rattle.line_graph.specs.JoinedDrawings.{joined_drawing}
 use Rattle.stitch_trace.specs.declared.needle_moves.NeedleMove.{NeedleMove}
 use Rattle.stitch_trace.specs.declared.links.Link.{Link}
 use Rattle.stitch_trace.specs.declared.strands.Strand.{Strand}

@@ -1,9 +1,9 @@
 -- Tracing move by move, as the code does it. No public clause cites this file.
 use Rattle.std.specs.Prelude.{◌≡◌, ℕ, ◌==◌, Bool, ◌||◌, max, List, [], ◌∷◌, ◌++◌, Result, Ok, Err, if◌then◌else◌}
 use Rattle.design_model.specs.declared.point.Point.{Point}
-use Rattle.lists_and_numbers.specs.OutOfMemory.{IsSpecified}
-use Rattle.drawing_model.specs.declared.draw_kind.DrawKind.{DrawKind}
-use Rattle.drawing_model.specs.GrowingDrawings.{draw_is_out_of_memory}
+use Rattle.design_model.specs.OutOfMemory.{IsSpecified}
+use Rattle.line_graph.specs.declared.draw_kind.DrawKind.{DrawKind}
+use Rattle.line_graph.specs.GrowingDrawings.{draw_is_out_of_memory}
 use Rattle.stitch_trace.specs.declared.links.Link.{Link}
 use Rattle.stitch_trace.specs.declared.needle_moves.NeedleMove.{NeedleMove}
 use Rattle.stitch_trace.specs.declared.needle_moves.NeedleMove.TheVariants.{Stay, Gap, Sewn}

@@ -5,10 +5,9 @@ ghost use Rattle.stitch_trace.specs.declared.needle_moves.NeedleMove.{NeedleMove
 
 use crate::links::Link;
 use crate::needle_moves::{NeedleMove, move_to, needle_point};
-use crate::new_links::new_move;
+use crate::new_links::unless_sewn;
 use crate::strands::Chains;
-use design_model::{NumberedAct, Points};
-use lists_and_numbers::Memory;
+use design_model::{Memory, NumberedAct, Points};
 use std::alloc::Global;
 use std::collections::HashSet;
 
@@ -21,7 +20,7 @@ pub fn chains(alloc: Global, acts: &[NumberedAct]) -> Result<Chains, Memory>
     let mut chains = Chains::new(alloc);
     let mut before = None;
     for a in acts {
-        let step = new_move(&mut sewn, move_to(before, *a))?;
+        let step = unless_sewn(&mut sewn, move_to(before, *a))?;
         take_move(alloc, step, &mut chain, &mut chains)?;
         before = needle_point(*a);
     }

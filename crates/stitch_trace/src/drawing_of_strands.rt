@@ -1,19 +1,17 @@
 ghost use Rattle.design_model.specs.Labels.{IsLabel};
-ghost use Rattle.design_model.specs.declared.point.Point.{Point as PointValue};
-ghost use Rattle.drawing_model.specs.GrowingDrawings.{and_then, empty_drawing, finished_drawing, draw_is_out_of_memory};
-ghost use Rattle.drawing_model.specs.JoinedDrawings.{is_joined, joined_drawing};
-ghost use Rattle.drawing_model.specs.WalkEnds.{HasNoEnds};
-ghost use Rattle.lists_and_numbers.specs.OutOfMemory.{IsSpecified};
+ghost use Rattle.design_model.specs.OutOfMemory.{IsSpecified};
+ghost use Rattle.line_graph.specs.GrowingDrawings.{draw_is_out_of_memory};
+ghost use Rattle.line_graph.specs.JoinedDrawings.{is_joined};
+ghost use Rattle.line_graph.specs.WalkEnds.{HasNoEnds};
 ghost use Rattle.std.specs.List.{position_or_len};
-ghost use Rattle.std.specs.Prelude.{◌≡◌, ◌≢◌, ◌≤◌, Ok, true, List, All, IfOk, length};
+ghost use Rattle.std.specs.Prelude.{◌≡◌, ◌≢◌, ◌≤◌, Ok, true, All, IfOk, length};
 ghost use Rattle.step_splitter.specs.declared.segment.TheConstants.{MAX_STEP};
 ghost use Rattle.stitch_trace.specs.Traces.{chains_added, drawing_with_strands, label_first_word, strand_added, is_space, strands_added};
 ghost use Rattle.stitch_trace.specs.Tracing.{GrowsAsSpecified};
-ghost use Rattle.stitch_trace.specs.declared.strands.Strand.{Strand as StrandValue};
 
 use crate::strands::{Chains, Strand};
 use design_model::{Point, Points};
-use drawing_model::{DrawKind, Drawing, DrawingMaker, join};
+use line_graph::{DrawKind, Drawing, DrawingMaker, join};
 use std::alloc::Global;
 
 /// Returns the joined drawing with a block for each strand, with the first word of a label as its label.

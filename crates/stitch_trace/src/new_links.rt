@@ -7,11 +7,11 @@ ghost use Rattle.stitch_trace.specs.declared.needle_moves.NeedleMove.{NeedleMove
 
 use crate::links::Link;
 use crate::needle_moves::NeedleMove;
-use lists_and_numbers::Memory;
+use design_model::Memory;
 use std::collections::HashSet;
 
 /// Returns the move, or a gap where its link was sewn before in either direction.
-pub fn new_move(sewn: &mut HashSet<Link>, step: NeedleMove) -> Result<NeedleMove, Memory>
+pub fn unless_sewn(sewn: &mut HashSet<Link>, step: NeedleMove) -> Result<NeedleMove, Memory>
     ensures { IfOk result (λ fresh. (rest : List MoveValue) →
         new_moves_by (contains is_same_directed_link sewn.old) (step ∷ rest)
         ≡ fresh ∷ new_moves_by (contains is_same_directed_link sewn.new) rest) }
@@ -19,7 +19,7 @@ pub fn new_move(sewn: &mut HashSet<Link>, step: NeedleMove) -> Result<NeedleMove
     let NeedleMove::Sewn { link, .. } = step else {
         return Ok(step);
     };
-    let is_new = sew(sewn, link)?;
+    let is_new = note_link(sewn, link)?;
     if is_new {
         Ok(step)
     } else {
@@ -28,7 +28,7 @@ pub fn new_move(sewn: &mut HashSet<Link>, step: NeedleMove) -> Result<NeedleMove
 }
 
 /// Returns whether the link is new, and stores it in both directions.
-fn sew(sewn: &mut HashSet<Link>, link: Link) -> Result<bool, Memory>
+fn note_link(sewn: &mut HashSet<Link>, link: Link) -> Result<bool, Memory>
     ensures new { IfOk result (λ is_new. is_new ≡ not (contains is_same_directed_link sewn.old link)) }
     ensures kept { OnOk result ((other : LinkValue) → contains is_same_directed_link sewn.new other
         ≡ (is_same_link link other || contains is_same_directed_link sewn.old other)) }

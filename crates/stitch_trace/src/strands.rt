@@ -6,8 +6,7 @@ ghost use Rattle.stitch_trace.specs.Chains.{chains_of};
 ghost use Rattle.stitch_trace.specs.Traces.{strand_of, strands_from};
 
 use crate::chains::chains;
-use design_model::{Act, Design, NumberedAct, Points};
-use lists_and_numbers::{Items, Memory};
+use design_model::{Act, Design, Items, Memory, NumberedAct, Points};
 use std::alloc::Global;
 
 /// Chains of links, each as its points, in tenths of a millimetre.

@@ -2,8 +2,8 @@ ghost use Rattle.std.specs.Prelude.{◌≡◌};
 ghost use Rattle.stitch_trace.specs.Traces.{IsRefusalOf};
 ghost use Rattle.stitch_trace.specs.declared.trace_fault.TraceFault.TheVariants as fault;
 
-use drawing_model::DrawKind;
-use lists_and_numbers::Memory;
+use design_model::Memory;
+use line_graph::DrawKind;
 
 /// The reason why a design has no traced drawing.
 #[derive(Clone, Copy)]

@@ -1,7 +1,6 @@
-ghost use Rattle.design_model.specs.declared.act.NumberedAct.{NumberedAct as NumberedActValue};
-ghost use Rattle.drawing_model.specs.JoinedDrawings.{is_joined};
-ghost use Rattle.drawing_model.specs.WalkEnds.{HasNoEnds};
-ghost use Rattle.lists_and_numbers.specs.OutOfMemory.{IsSpecified};
+ghost use Rattle.design_model.specs.OutOfMemory.{IsSpecified};
+ghost use Rattle.line_graph.specs.JoinedDrawings.{is_joined};
+ghost use Rattle.line_graph.specs.WalkEnds.{HasNoEnds};
 ghost use Rattle.std.specs.Prelude.{◌≡◌, ◌≤◌, true, IfOk};
 ghost use Rattle.step_splitter.specs.declared.segment.TheConstants.{MAX_STEP as max_step};
 ghost use Rattle.stitch_trace.specs.Links.{needle_moves_of};
@@ -13,7 +12,7 @@ use crate::needle_moves::{NeedleMove, move_to, needle_point};
 use crate::strands::strands;
 use crate::trace_fault::{TraceFault, refusal_of};
 use design_model::{Design, NumberedAct, acts};
-use drawing_model::{Drawing, MAX_STEP};
+use line_graph::{Drawing, MAX_STEP};
 use std::alloc::Global;
 
 /// Returns the drawing of what a design sews, each link once. Errors, in this order: `NoLinks`;

@@ -1,7 +1,7 @@
 ghost use Rattle.std.specs.List.{concat};
 ghost use Rattle.std.specs.Prelude.{◌≡◌, ◌++◌, IfOk, replicate};
 
-use lists_and_numbers::{Bytes, Memory};
+use design_model::{Bytes, Memory};
 use std::alloc::Global;
 
 /// Returns a head, the given number of times a middle, and an end. The only error is `Memory`.

@@ -1,6 +1,5 @@
-use design_model::Point;
-use lists_and_numbers::Bytes;
-use picture_parts::{length_between, put_escaped, thread_colour};
+use design_model::{Bytes, Point, length_between};
+use picture_parts::{put_escaped, thread_colour};
 use std::test::Fail;
 
 #[test]

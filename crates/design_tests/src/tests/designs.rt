@@ -1,9 +1,8 @@
 use crate::stitch;
 use design_model::{
-    Act, Acts, Command, Design, Extent, ModelFault, NumberedAct, Point, acts, block_counts, counts,
-    extent, height, width,
+    Act, Acts, Bytes, Command, Design, Extent, Memory, ModelFault, NumberedAct, Point, Whole, acts,
+    block_counts, counts, extent, height, parse_whole, width,
 };
-use lists_and_numbers::{Bytes, Memory, Whole, parse_whole};
 use std::test::Fail;
 use test_values::{design_of, large};
 

@@ -1,5 +1,5 @@
 use crate::stitch;
-use design_edits::{Axis, MAX_SHIFT, MovedOut, NoPlace, mirror, recolour, shift, turn};
+use design_edits::{Axis, EditFault, MAX_SHIFT, mirror, recolour, shift, turn};
 use design_model::{Command, Design, ModelFault, Point};
 use std::test::Fail;
 use test_values::{design_of, large};
@@ -55,11 +55,11 @@ fn a_mirroring_changes_the_signs_of_one_axis(rt: HostRuntime) -> Result<(), Fail
 
 #[test]
 fn a_shift_out_of_range_changes_nothing(rt: HostRuntime) -> Result<(), Fail> {
-    let cases: [(i32, i32, Result<(), MovedOut>); 5] = [
-        (30_000, 0, Err(MovedOut { number: 1 })),
-        (29_970, 0, Err(MovedOut { number: 2 })),
-        (0, 29_994, Err(MovedOut { number: 5 })),
-        (-60_000, 0, Err(MovedOut { number: 1 })),
+    let cases: [(i32, i32, Result<(), EditFault>); 5] = [
+        (30_000, 0, Err(EditFault::Range { number: 1 })),
+        (29_970, 0, Err(EditFault::Range { number: 2 })),
+        (0, 29_994, Err(EditFault::Range { number: 5 })),
+        (-60_000, 0, Err(EditFault::Range { number: 1 })),
         (0, 29_993, Ok(())),
     ];
     for (dx, dy, answer) in cases {
@@ -80,7 +80,7 @@ fn a_shift_out_of_range_changes_nothing(rt: HostRuntime) -> Result<(), Fail> {
 #[test]
 fn a_needle_at_one_may_go_to_the_edge(rt: HostRuntime) -> Result<(), Fail> {
     let mut design = filled(&rt, &[stitch(1, 0)])?;
-    let refused = Err(MovedOut { number: 1 });
+    let refused = Err(EditFault::Range { number: 1 });
     assert_eq!(rt; shift(&mut design, 30_000, 0), refused);
     assert_eq!(rt; shift(&mut design, 29_999, 0), Ok(()));
     assert_eq!(rt; design.commands(), [stitch(30_000, 0)].as_slice());
@@ -94,7 +94,7 @@ fn a_block_gets_a_thread_and_the_others_keep_theirs(rt: HostRuntime) -> Result<(
     assert_eq!(rt; design.threads(), [9, 2, 3, 7].as_slice());
     assert_eq!(rt; recolour(&mut design, 1, 0), Ok(()));
     assert_eq!(rt; design.threads(), [9, 0, 3, 7].as_slice());
-    let refused = Err(NoPlace { count: 4 });
+    let refused = Err(EditFault::NoPlace { count: 4 });
     assert_eq!(rt; recolour(&mut design, 4, 7), refused);
     assert_eq!(rt; design.threads(), [9, 0, 3, 7].as_slice());
     Ok(())
@@ -103,7 +103,7 @@ fn a_block_gets_a_thread_and_the_others_keep_theirs(rt: HostRuntime) -> Result<(
 #[test]
 fn there_are_at_most_255_places(rt: HostRuntime) -> Result<(), Fail> {
     let mut design = filled(&rt, &[Command::Stop; 300])?;
-    let refused = Err(NoPlace { count: 255 });
+    let refused = Err(EditFault::NoPlace { count: 255 });
     assert_eq!(rt; recolour(&mut design, 255, 7), refused);
     assert_eq!(rt; recolour(&mut design, 254, 7), Ok(()));
     assert_eq!(rt; design.threads().len(), 255);

@@ -1,6 +1,6 @@
 use crate::points_of;
 use design_model::{Point, Points};
-use drawing_model::{DrawKind, Drawing, DrawingMaker, MAX_STEP, is_label_word, needles};
+use line_graph::{DrawKind, Drawing, DrawingMaker, MAX_STEP, is_label_word, needles};
 use std::alloc::Global;
 use std::process::Abort;
 use std::test::Fail;

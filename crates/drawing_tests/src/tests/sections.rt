@@ -1,6 +1,6 @@
 use crate::points_of;
+use design_model::Memory;
 use line_sections::{Line, are_whole, sections};
-use lists_and_numbers::Memory;
 use std::alloc::Global;
 use std::test::Fail;
 

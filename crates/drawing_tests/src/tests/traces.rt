@@ -1,5 +1,5 @@
 use design_model::{Command, Design, ModelFault, Point};
-use drawing_model::{DrawKind, Drawing};
+use line_graph::{DrawKind, Drawing};
 use std::alloc::Global;
 use std::test::Fail;
 use stitch_trace::{TraceFault, trace};

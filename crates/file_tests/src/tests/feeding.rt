@@ -1,8 +1,7 @@
 ghost use Rattle.std.specs.Prelude.{◌≡◌, IsOk, false};
 
-use design_model::{Command, Design};
+use design_model::{Bytes, Command, Design, MAX_FILE, Memory};
 use format_traits::{Format, Loaded, ReadFault};
-use lists_and_numbers::{Bytes, MAX_FILE, Memory};
 use std::alloc::Global;
 use std::process::Abort;
 

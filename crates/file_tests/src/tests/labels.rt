@@ -1,6 +1,5 @@
-use design_model::{Command, Design, Point};
+use design_model::{Bytes, Command, Design, Point};
 use format_traits::{put_label, put_spaces, read_label};
-use lists_and_numbers::Bytes;
 use std::test::Fail;
 
 #[test]

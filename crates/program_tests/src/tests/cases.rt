@@ -5,7 +5,7 @@ use dst_codec::Dst;
 use exp_codec::Exp;
 use format_traits::Format;
 use outside_io::{MemSink, MemStore};
-use pec_pes_codec::{Pec, Pes};
+use pes_codec::{Pec, Pes};
 use std::alloc::Global;
 use std::process::Abort;
 use std::test::Fail;

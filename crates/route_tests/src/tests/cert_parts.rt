@@ -1,7 +1,7 @@
 ghost use Rattle.std.specs.Prelude.{◌<◌, ◌+◌, ◌^◌, All, IfOk};
 
+use design_model::{Memory, Numbers};
 use line_graph::Pass;
-use lists_and_numbers::{Memory, Numbers};
 use std::alloc::Global;
 
 /// Returns the pass of a line, by its number, which is negative for backwards.

@@ -2,8 +2,8 @@ ghost use Rattle.odd_cuts.specs.Certificates.{HasCanonicalText};
 ghost use Rattle.std.specs.Prelude.{All, IfOk};
 
 use certificate_text::{CertFault, print_cert, read_cert};
+use design_model::{Bytes, MAX_FILE, Memory};
 use line_graph::Pass;
-use lists_and_numbers::{Bytes, MAX_FILE, Memory};
 use odd_cuts::Cert;
 use std::alloc::Global;
 use std::test::Fail;

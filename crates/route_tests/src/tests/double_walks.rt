@@ -1,8 +1,7 @@
+use design_model::Memory;
 use double_run::double;
-use drawing_model::{DrawKind, Drawing, DrawingMaker};
 use drawing_tests::points_of;
-use line_graph::pieces;
-use lists_and_numbers::Memory;
+use line_graph::{DrawKind, Drawing, DrawingMaker, pieces};
 use std::alloc::Global;
 use std::test::Fail;
 

@@ -1,12 +1,11 @@
 ghost use Rattle.route_tests.specs.MoatLoads.{corner_points};
 ghost use Rattle.std.specs.Prelude.{◌≡◌, IfOk};
 
-use crate::keep_loads;
+use crate::have_small_loads;
 use blossom_match::{Moat, Moats};
 use cut_certificate::{Cuts, lift};
-use design_model::{Point, Points};
+use design_model::{Items, Memory, Numbers, Point, Points};
 use line_graph::{Edge, Piece};
-use lists_and_numbers::{Items, Memory, Numbers};
 use matching_checks::{all_laminar, all_odd};
 use odd_paths::{odd, rows};
 use std::alloc::Global;
@@ -85,7 +84,7 @@ fn lifted(alloc: Global, p: &Piece, moats: &Moats) -> Result<Option<Cuts>, Memor
     if !all_odd(places.len() as u32, all) {
         return Ok(None);
     }
-    if !all_laminar(all) || !keep_loads(&rows, places, all) {
+    if !all_laminar(all) || !have_small_loads(&rows, places, all) {
         return Ok(None);
     }
     let cuts = lift(alloc, p, &rows, moats)?;

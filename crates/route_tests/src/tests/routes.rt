@@ -1,7 +1,6 @@
-use design_model::counts;
-use drawing_model::Drawing;
+use design_model::{MAX_FILE, counts};
 use drawing_text::read_drawing;
-use lists_and_numbers::MAX_FILE;
+use line_graph::Drawing;
 use odd_cuts::PieceCert;
 use route_core::route;
 use std::alloc::Global;

@@ -2,10 +2,9 @@ ghost use Rattle.line_graph.specs.PiecesOfDrawings.{graph_of};
 ghost use Rattle.line_graph.specs.ValidPieces.{is_below};
 ghost use Rattle.std.specs.Prelude.{◌≡◌, ◌∷◌, [], pos, true, IfOk};
 
-use design_model::Point;
+use design_model::{Items, Memory, Point};
 use euler_tour::tour;
 use line_graph::{Edge, Pass, Piece};
-use lists_and_numbers::{Items, Memory};
 use std::alloc::Global;
 use std::process::Abort;
 use std::test::Fail;

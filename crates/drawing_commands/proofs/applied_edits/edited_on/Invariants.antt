@@ -1,6 +1,6 @@
 use Rattle.std.proofs.Common.{◌≡◌, ◌+◌, true, drop, map, string_bytes}
 use Rattle.drawing_commands.proofs.Names.{HasOrderedEnds}
-use Rattle.drawing_model.specs.JoinedDrawings.{is_joined}
+use Rattle.line_graph.specs.JoinedDrawings.{is_joined}
 use Rattle.drawing_commands.proofs.DrawingEditLemmas.{EditsGoOn}
 use Rattle.drawing_commands.proofs.applied_edits.edited_on.Given as goal
 

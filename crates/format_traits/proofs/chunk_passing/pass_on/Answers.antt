@@ -11,7 +11,7 @@ loop-size-preserved g c =
     c.fill-rest.ensures.all ∙ ap (λ left. left ++ rest) c.in_ok-size.ensures.left in
     let up = kept.up in
     record {
-      sum = passes_sum c.args.start c.loop-size.at _ c.args.pending.now.items c.args.piece.now c.loop-size.pending.items rest
+      sum = passes_sum c.args.start c.loop-size.at _ c.args.pending.now.items c.args.chunk.now c.loop-size.pending.items rest
           c.fill-rest.new.bytes.items c.fill-rest.result.now kept.sum takes.there same;
       up = omega (arith, up);
       on = passes_on c.args.start c.loop-size.at _ _ c.loop-size.pending.items rest

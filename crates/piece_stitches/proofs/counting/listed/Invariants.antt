@@ -1,5 +1,5 @@
 use Rattle.std.proofs.Common.{◌≡◌, ◌++◌, ◌+◌, ◌≤◌, All, length}
-use Rattle.drawing_model.specs.declared.limits.TheConstants.{MAX_LINES}
+use Rattle.line_graph.specs.declared.limits.TheConstants.{MAX_LINES}
 use Rattle.piece_stitches.specs.PieceStitches.{HasLinesOf, HasSmallLengths, stitches_after, stitches_of_pieces}
 use Rattle.piece_stitches.proofs.counting.listed.Given as goal
 

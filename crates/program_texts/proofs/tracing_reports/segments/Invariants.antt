@@ -1,7 +1,7 @@
 use Rattle.std.proofs.Common.{◌≡◌, ◌≤◌, ◌+◌, drop, length, sum_by}
 use Rattle.line_sections.specs.Lines.{LineValue}
 use Rattle.line_sections.specs.Sections.{segments_of}
-use Rattle.drawing_model.specs.GrowingDrawings.{point_count}
+use Rattle.line_graph.specs.GrowingDrawings.{point_count}
 use Rattle.program_texts.specs.TracingReports.{segment_count}
 use Rattle.program_texts.proofs.tracing_reports.segments.Given as goal
 

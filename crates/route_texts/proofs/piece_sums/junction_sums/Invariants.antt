@@ -1,5 +1,5 @@
 use Rattle.std.proofs.Common.{◌≡◌, ◌+◌, ◌*◌, ◌≤◌, drop}
-use Rattle.drawing_model.specs.declared.limits.TheConstants.{MAX_LINES}
+use Rattle.line_graph.specs.declared.limits.TheConstants.{MAX_LINES}
 use Rattle.route_texts.specs.PieceSums.{total_junctions, total_odd_junctions}
 use Rattle.route_texts.proofs.piece_sums.junction_sums.Given as goal
 

@@ -1,5 +1,5 @@
 use Rattle.std.proofs.Common.{◌+◌, ◌<◌, ◌≤◌, length, All}
-use Rattle.drawing_model.specs.declared.limits.TheConstants.{MAX_BLOCKS, MAX_LINES}
+use Rattle.line_graph.specs.declared.limits.TheConstants.{MAX_BLOCKS, MAX_LINES}
 use Rattle.route_texts.specs.PieceReports.{reports_from}
 use Rattle.route_texts.proofs.ReportLemmas.{ReportsOn}
 use Rattle.route_texts.proofs.sewing_reports.reports_of.Given as goal

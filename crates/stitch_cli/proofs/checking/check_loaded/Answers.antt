@@ -1,5 +1,6 @@
-use Rattle.stitch_cli.proofs.Names.{settles_next}
+use Rattle.stitch_cli.proofs.Names.{cert_of, check_cert, check_order, takes_next}
 use Rattle.stitch_cli.proofs.checking.check_loaded.Goals as goal
 
 pub returns : goal.returns
-returns g c = λ m. settles_next _ _ _ _ _ _ c.in_ok-bytes.ensures (rw c.as_slice.ensures at (c.check_text.ensures m))
+returns g c = λ m. takes_next _ cert_of (check_cert (check_order c.args.names m) c.args.drawing.now c.args.loaded.now.design) _ _ _ _ _
+    c.in_ok-pieces.ensures.takes c.judged.ensures

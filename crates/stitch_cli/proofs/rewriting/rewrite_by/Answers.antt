@@ -9,4 +9,4 @@ returns-clause-prepares g c = λ s t of_source of_target.
     (subst (λ (here : Meaning). RunsPurePlan (satisfies
     (IsRewriteResult (rewrite_order c.args.names s here (change_list c.args.changes.now))
     c.in_ok-loaded.loaded)) c.rewrite_loaded.result)
-    (same_format _ _ c.args.places.target _ t c.in_ok-loaded.ensures.same c.format_at.ensures of_target) (c.rewrite_loaded.ensures s))
+    (same_format _ _ c.args.indexes.target _ t c.in_ok-loaded.ensures.same c.format_at.ensures of_target) (c.rewrite_loaded.ensures s))

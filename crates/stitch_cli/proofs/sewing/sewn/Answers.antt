@@ -4,8 +4,8 @@ use Rattle.stitch_cli.proofs.sewing.sewn.Goals as goal
 pub encoded-requires-clause-plain : goal.encoded-requires-clause-plain
 encoded-requires-clause-plain g c = sewn_plain _ _ _ _ _ c.in_ok-routed.ensures c.requires.limit c.requires.step
 
-pub print_sewing-requires : goal.print_sewing-requires
-print_sewing-requires g c = rw (c.as_slice-2.ensures, c.as_slice-3.ensures) (record {
+pub describe_sewing-requires : goal.describe_sewing-requires
+describe_sewing-requires g c = rw (c.as_slice-2.ensures, c.as_slice-3.ensures) (record {
   blocks = c.in_ok-pieces.ensures.blocks;
   most = pieces_few _ _ _ _ _ c.as_slice.ensures c.in_ok-routed.ensures;
   few = penetrations_few _ _ _ _ c.in_ok-pieces.ensures.cut (rw c.as_slice.ensures at c.in_ok-routed.ensures);

@@ -5,7 +5,7 @@ use Rattle.drawing_repairs.proofs.anchors.Anchors.nearest.Goals as goal
 
 pub returns : goal.returns
 returns c =
-    c.nearest_of.ensures
+    c.anchor_nearest_to.ensures
     ∙ ap (λ (points : List Point). nearest_anchor c.self.inside.gap points c.args.p)
     (c.points_at.ensures ∙ ap (λ (cell : Cell). points_in_cell (get is_same_cell c.self.inside.cells) cell) c.cell_at.ensures)
     ∙ nearest_in_cell c.self.inside.gap c.self.inside.all (get is_same_cell c.self.inside.cells) c.args.p c.self.invariant

@@ -1,0 +1,6 @@
+mod edit_runs;
+mod look_runs;
+mod picture_runs;
+mod snap_runs;
+mod space_runs;
+mod table_runs;

@@ -1,0 +1,78 @@
+//! Runs of `stitch_drawing edit` over files in memory.
+use crate::{done, faulted, refused, unasked};
+use super::table_runs::Run;
+
+pub const FILES: &[(&str, &str)] = &[
+    (
+        "ok.rw",
+        "redwork 1\nname T\nstep 10\ncolor 1\nline 0 0 40 0 80 0\nline 40 0 40 40\n",
+    ),
+    (
+        "ends.rw",
+        "redwork 3\nstep 10\ncolor 1\nstart 0 0\nend 40 -10\nline 0 0 40 -10\n",
+    ),
+    (
+        "long.rw",
+        "redwork 2\ncolor 1\nline -30000 0 30000 0\nline -30000 1 30000 1\nline -30000 2 30000 2\nline -30000 3 30000 3\n",
+    ),
+    (
+        "pieces.rw",
+        "redwork 2\nstep 10\ncolor 1\nline 0 0 40 0 80 0\nline 100 0 140 0 140 40 100 40 100 0\ncolor 2\nline 0 0 0 20\n",
+    ),
+];
+
+pub const RUNS: &[Run] = &[
+    done!("edit ok.rw out.rw shift=5,-3" =>
+        "lines 3 pieces 1 cost 12\n",
+        "redwork 2\nname T\nstep 10\ncolor 1\nline 5 -3 45 -3\nline 45 -3 85 -3\nline 45 -3 45 37\n"),
+    done!("edit ok.rw out.rw turn=1" =>
+        "lines 3 pieces 1 cost 12\n",
+        "redwork 2\nname T\nstep 10\ncolor 1\nline 0 0 0 40\nline 0 40 0 80\nline 0 40 -40 40\n"),
+    done!("edit ok.rw out.rw centre step=20" =>
+        "lines 3 pieces 1 cost 6\n",
+        "redwork 2\nname T\nstep 20\ncolor 1\nline -40 -20 0 -20\nline 0 -20 40 -20\nline 0 -20 0 20\n"),
+    done!("edit ends.rw out.rw mirror=y shift=1,0 mirror=x" =>
+        "lines 1 pieces 1 cost 4\n",
+        "redwork 3\nstep 10\ncolor 1\nline -1 0 -41 10\nstart -1 0\nend -41 10\n"),
+    refused!("edit ok.rw out.rw shift=29920,0 shift=1,0" =>
+        "stitch_drawing: ok.rw: edit 2: number out of range\n"),
+    refused!("edit long.rw out.rw step=1" =>
+        "stitch_drawing: long.rw: edit 1: more than 200000 steps\n"),
+    done!("edit pieces.rw out.rw order=2,1" =>
+        "lines 3 pieces 3 cost 26\n",
+        "redwork 2\nstep 10\ncolor 1\nline 100 0 140 0 140 40 100 40 100 0\nline 0 0 40 0 80 0\ncolor 2\nline 0 0 0 20\n"),
+    done!("edit pieces.rw out.rw order=1,2" =>
+        "lines 3 pieces 3 cost 26\n",
+        "redwork 2\nstep 10\ncolor 1\nline 0 0 40 0 80 0\nline 100 0 140 0 140 40 100 40 100 0\ncolor 2\nline 0 0 0 20\n"),
+    done!("edit pieces.rw out.rw end=80,0 start=40,0" =>
+        "lines 4 pieces 3 cost 26\n",
+        "redwork 3\nstep 10\ncolor 1\nline 0 0 40 0\nline 40 0 80 0\nline 100 0 140 0 140 40 100 40 100 0\nstart 40 0\nend 80 0\ncolor 2\nline 0 0 0 20\n"),
+    done!("edit pieces.rw out.rw start=140,40 order=2,1 shift=0,-1" =>
+        "lines 4 pieces 3 cost 26\n",
+        "redwork 3\nstep 10\ncolor 1\nline 100 -1 140 -1 140 39\nline 140 39 100 39 100 -1\nline 0 -1 40 -1 80 -1\nstart 140 39\ncolor 2\nline 0 -1 0 19\n"),
+    refused!("edit pieces.rw out.rw order=4,1" =>
+        "stitch_drawing: pieces.rw: edit 1: no piece 4\n"),
+    refused!("edit pieces.rw out.rw centre order=1,7" =>
+        "stitch_drawing: pieces.rw: edit 2: no piece 7\n"),
+    refused!("edit pieces.rw out.rw order=2,2" =>
+        "stitch_drawing: pieces.rw: edit 1: both pieces are one\n"),
+    refused!("edit pieces.rw out.rw order=3,1" =>
+        "stitch_drawing: pieces.rw: edit 1: pieces in different blocks\n"),
+    refused!("edit pieces.rw out.rw start=0,0" =>
+        "stitch_drawing: pieces.rw: edit 1: two blocks list the point\n"),
+    refused!("edit pieces.rw out.rw end=20,0" =>
+        "stitch_drawing: pieces.rw: edit 1: not a junction\n"),
+    refused!("edit pieces.rw out.rw start=40,0 start=80,0" =>
+        "stitch_drawing: pieces.rw: edit 2: start or end repeated\n"),
+    unasked!("edit pieces.rw out.rw order=0,1"),
+    unasked!("edit pieces.rw out.rw order=1"),
+    unasked!("edit pieces.rw out.rw start=30001,0"),
+    unasked!("edit pieces.rw out.rw end=5"),
+    faulted!("edit none.rw out.rw centre" => "stitch_drawing: cannot read none.rw\n"),
+    unasked!("edit out.rw out.rw centre"),
+    unasked!("edit ok.rw out.rw thread=1,2"),
+    unasked!("edit ok.rw out.rw step=0"),
+    unasked!("edit ok.rw out.rw step=2048"),
+    unasked!("edit ok.rw out.rw turn=4"),
+    unasked!("edit ok.rw out.rw"),
+];

@@ -1,0 +1,180 @@
+//! Runs of `stitch_picture` over files in memory: their status, and the line or text on the standard error.
+use exp_codec::Exp;
+use format_traits::Format;
+use memchr::memmem;
+use outside_io::{MemSink, MemStore};
+use picture_commands::run;
+use program_shell::Status;
+use std::alloc::Global;
+use std::test::Fail;
+use stitch_text::List;
+
+/// Three needles 3 mm apart, and the same way back.
+const FORTH_AND_BACK: &[u8] =
+    b"stitch-list 1\nlabel []\nblock 5\nneedle 0 0\nneedle 30 0\nneedle 60 0\nneedle 30 0\nneedle 0 0\ntrim\nend\n";
+
+/// A line of two steps.
+const DRAWING: &[u8] = b"redwork 3\nstep 10\ncolor 5\nline 0 0 20 0\n";
+
+/// The way there and back, and a cut round the first end that takes all of the line.
+const PROOF: &[u8] = b"redwork-certificate 1\npiece 2\nwalk 1 -1\ncut 4 1\nend\n";
+
+/// A cut that is too light.
+const NO_PROOF: &[u8] = b"redwork-certificate 1\npiece 2\nwalk 1 -1\ncut 3 1\nend\n";
+
+/// Two lines of thread 5 that meet, and two of thread 1, the first of which ends 2 tenths before the second.
+const LOOSE: &[u8] =
+    b"redwork 3\nname loose\nstep 10\ncolor 5\nline 0 0 20 0\nline 20 0 40 0 40 10\ncolor 1\nline 0 20 18 20\nline 20 15 20 30\n";
+
+const TEXT_OF_USAGE: &str =
+    "usage: stitch_picture FILE OUT.svg [WIDTH HEIGHT]\n       stitch_picture DRAWING OUT.svg\n       stitch_picture DRAWING CERT OUT.svg\n";
+
+/// Arguments, the status of their run, and what it prints on the standard error.
+type PictureCase = (&'static [&'static str], u8, &'static str);
+
+const CASES: [PictureCase; 18] = [
+    (&["a.lst", "a.svg"], 0, ""),
+    (&["a.lst", "a.svg", "700", "300"], 0, ""),
+    (&[], 2, TEXT_OF_USAGE),
+    (&["a.lst"], 2, TEXT_OF_USAGE),
+    (&["a.lst", "a.svg", "7"], 2, TEXT_OF_USAGE),
+    (&["a.lst", "a.svg", "0", "9"], 2, TEXT_OF_USAGE),
+    (&["a.rw", "a.svg", "7", "9"], 2, TEXT_OF_USAGE),
+    (&["a.lst", "a.lst"], 2, TEXT_OF_USAGE),
+    (
+        &["bad.exp", "a.svg"],
+        1,
+        "stitch_picture: bad.exp: byte 0: control code not known\n",
+    ),
+    (&["a.rw", "a.svg"], 0, ""),
+    (
+        &["a.cert", "a.svg"],
+        1,
+        "stitch_picture: a.cert: line 1: not a redwork drawing\n",
+    ),
+    (&["a.rw", "a.cert", "a.svg"], 0, ""),
+    (
+        &["a.lst", "a.cert", "a.svg"],
+        1,
+        "stitch_picture: a.lst: line 1: not a redwork drawing\n",
+    ),
+    (
+        &["a.rw", "none.cert", "a.svg"],
+        3,
+        "stitch_picture: cannot read none.cert\n",
+    ),
+    (
+        &["a.rw", "a.rw", "a.svg"],
+        1,
+        "stitch_picture: a.rw: line 1: not a certificate\n",
+    ),
+    (
+        &["a.rw", "wrong.cert", "a.svg"],
+        1,
+        "stitch_picture: no: piece 1: cuts give 3 halves, needed 4\n",
+    ),
+    (
+        &["none.lst", "a.svg"],
+        3,
+        "stitch_picture: cannot read none.lst\n",
+    ),
+    (
+        &["a.lst", "small.svg"],
+        3,
+        "stitch_picture: cannot write small.svg\n",
+    ),
+];
+
+/// Arguments, and parts of the picture that they make.
+type DrawnCase = (&'static [&'static str], &'static [&'static [u8]]);
+
+/// What is sewn again is drawn beside the first; a proof shows what is sewn again and its cuts; a drawing shows its
+/// lines, the junctions of its first piece, its loose end, and the counts.
+const PICTURES: [DrawnCase; 3] = [
+    (
+        &["a.lst", "a.svg"],
+        &[
+            b"<path class='thread' stroke='#ed171f' d='\nM0,0L30,0L60,0A30,30,0,0,1,30,0A30,30,0,0,1,0,0'/>\n",
+            b"<path class='hole' d='M0,0h0M30,0h0M60,0h0M30,0h0M0,0h0'/>\n",
+            b"needles 5, pieces 1, trims 1, stops 0</text>\n",
+            b"thread 5</text><text x='170'>needles 5</text><text x='350'>length 12.0 mm</text></g>\n",
+        ],
+    ),
+    (
+        &["a.rw", "a.cert", "a.svg"],
+        &[
+            b"<g transform='scale(.5)'>\n<path class='band' stroke='#1b9e77' d='M0,0 10,0 20,0 30,0 40,0 '/>\n</g>\n",
+            b"<path class='second' d='\nM20,0A5,5,0,0,1,10,0\nM10,0A5,5,0,0,1,0,0'/>\n",
+            b"what is sewn again: steps 2.</text>\n",
+        ],
+    ),
+    (
+        &["loose.rw", "a.svg"],
+        &[
+            b"<path class='thread' stroke='#ed171f' d='\nM0,0L20,0'/>\n<path class='thread' stroke='#ed171f' d='\nM20,0L40,0L40,10'/>\n",
+            b"d='M0,0m-9,0a9,9,0,1,0,18,0a9,9,0,1,0,-18,0'/>\n<path fill='#222' d='M20,0m-5,0a5,5,0,1,0,10,0a5,5,0,1,0,-10,0'/>\n",
+            b"<path fill='none' stroke='#d00' stroke-width='3' d='M18,20m-15,0a15,15,0,1,0,30,0a15,15,0,1,0,-30,0'/>\n<g transform='translate(0,30) translate(0,60)'>\n",
+            b"pieces 3, lines 4, junctions 7</text>\n<text y='100'>odd junctions 6, loose ends 1</text>\n",
+            b"d='M7,-7h26' stroke='#0e1f7c'/><text x='52'>thread 1</text></g>\n",
+        ],
+    ),
+];
+
+#[test]
+fn each_run_prints_its_line_and_ends_with_its_status(rt: HostRuntime) -> Result<(), Fail> {
+    for (words, status, line) in CASES {
+        let mut store = stocked(rt.alloc())?;
+        let mut out = MemSink::new(rt.alloc(), 100)?;
+        let mut err = MemSink::new(rt.alloc(), 1_000)?;
+        let found = answer(rt.alloc(), words, &mut store, &mut out, &mut err)?;
+        assert_eq!(rt; err.taken(), line.as_bytes(), "{words:?}");
+        assert_eq!(rt; found as u8, status, "{words:?}");
+        assert!(rt; out.taken().is_empty(), "{words:?}");
+    }
+    Ok(())
+}
+
+#[test]
+fn each_picture_has_its_parts(rt: HostRuntime) -> Result<(), Fail> {
+    for (words, parts) in PICTURES {
+        let mut store = stocked(rt.alloc())?;
+        let mut out = MemSink::new(rt.alloc(), 100)?;
+        let mut err = MemSink::new(rt.alloc(), 1_000)?;
+        answer(rt.alloc(), words, &mut store, &mut out, &mut err)?;
+        let picture = store.file("a.svg").unwrap_or(b"");
+        for part in parts {
+            assert!(rt; memmem::find(picture, part).is_some(), "{words:?} {part:?}");
+        }
+    }
+    Ok(())
+}
+
+/// Returns a store with a design, a drawing with two certificates, a bad file, and room for pictures.
+fn stocked(alloc: Global) -> Result<MemStore, Fail> {
+    let mut store = MemStore::new(alloc);
+    store.put_file("a.lst", FORTH_AND_BACK)?;
+    store.put_file("a.rw", DRAWING)?;
+    store.put_file("loose.rw", LOOSE)?;
+    store.put_file("a.cert", PROOF)?;
+    store.put_file("wrong.cert", NO_PROOF)?;
+    store.put_file("bad.exp", b"\x80\x09\x00\x00")?;
+    store.prepare("a.svg", 100_000)?;
+    Ok(store)
+}
+
+fn answer(
+    alloc: Global,
+    words: &[&str],
+    store: &mut MemStore,
+    out: &mut MemSink,
+    err: &mut MemSink,
+) -> Result<Status, Fail> {
+    let mut owned = Vec::new(alloc);
+    for word in words {
+        owned.push(String::from_str(alloc, word)?)?;
+    }
+    let mut formats: Vec<Box<dyn Format>> = Vec::new(alloc);
+    formats.push(Box::new(alloc, Exp::new(alloc))?)?;
+    formats.push(Box::new(alloc, List::new(alloc))?)?;
+    Ok(run(alloc, &owned, &mut formats, store, out, err))
+}

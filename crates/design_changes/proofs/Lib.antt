@@ -1,3 +1,0 @@
-mod EditLemmas
-mod ChangeFacts
-mod ChangeResultFacts

@@ -1,2 +1,0 @@
-mod LoadingFacts
-pub mod LoadLemmas

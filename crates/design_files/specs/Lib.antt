@@ -1,2 +1,0 @@
--- read this one first: what loading a file means
-pub mod Loading

@@ -1,6 +1,0 @@
--- Points by their coordinates, for worked values.
-use Rattle.std.proofs.Common.{ℤ}
-use Rattle.drawing_model.proofs.Names.{Point}
-
-abbrev pub place : ℤ → ℤ → Point
-place x y = record { x = x; y = y }

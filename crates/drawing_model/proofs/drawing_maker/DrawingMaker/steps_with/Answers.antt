@@ -1,7 +1,0 @@
-use Rattle.std.proofs.Common.{arith, sym, ◌∙◌}
-use Rattle.drawing_model.proofs.MakerLemmas.{line_of}
-use Rattle.drawing_model.proofs.drawing_maker.DrawingMaker.steps_with.Goals as goal
-
-pub line_steps-requires-clause-line : goal.line_steps-requires-clause-line
-line_steps-requires-clause-line c =
-    line_of c.args.points.now (omega arith) (sym c.has_repeat.ensures ∙ c.if-has_repeat.false) c.requires

@@ -1,7 +1,0 @@
-use Rattle.std.proofs.Common.{◌≡◌, take}
-use Rattle.drawing_model.proofs.Names.{step_count}
-use Rattle.drawing_model.proofs.drawn_lines.drawing_cost.Given as goal
-
--- the cost of the lines so far
-abbrev pub invariant-loop-line : goal.invariant-loop-line
-invariant-loop-line l = l.cost ≡ step_count l.d.step (take l.line l.d.lines)

@@ -1,7 +1,0 @@
-use Rattle.drawing_model.proofs.GrowingLimitLemmas.{joined_valid}
-use Rattle.drawing_model.proofs.growing_theorems.joined_drawings_are_valid.Goals as goal
-
-pub returns : goal.returns
-returns c =
-    joined_valid c.sections_keep_segments.ensures.segments c.sections_keep_segments.ensures.each c.whole_lines_stay.ensures
-    c.sections_are_whole.ensures

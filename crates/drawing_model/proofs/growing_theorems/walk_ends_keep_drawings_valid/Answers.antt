@@ -1,5 +1,0 @@
-use Rattle.drawing_model.proofs.GrowingLimitLemmas.{walk_end_valid}
-use Rattle.drawing_model.proofs.growing_theorems.walk_ends_keep_drawings_valid.Goals as goal
-
-pub returns : goal.returns
-returns c = walk_end_valid

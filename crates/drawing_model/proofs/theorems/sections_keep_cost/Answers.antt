@@ -1,5 +1,0 @@
-use Rattle.drawing_model.proofs.SectionCosts.{cost_kept}
-use Rattle.drawing_model.proofs.theorems.sections_keep_cost.Goals as goal
-
-pub returns : goal.returns
-returns c d = cost_kept c.sections_keep_segments.ensures.segments d.step d.lines

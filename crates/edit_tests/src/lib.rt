@@ -1,8 +1,0 @@
-//! Tests of entire commands of `stitch_drawing`, over a store in memory.
-#![tactic(auto)]
-
-mod contents;
-#[cfg(test)]
-mod tests;
-
-pub use contents::file_content;

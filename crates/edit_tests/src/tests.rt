@@ -1,5 +1,0 @@
-mod edit_runs;
-mod look_runs;
-mod snap_runs;
-mod space_runs;
-mod table_runs;

@@ -1,4 +1,0 @@
-pub mod CallerLemmas
-mod LimitFacts
-mod WholeFacts
-pub mod WholeLemmas

@@ -1,9 +1,0 @@
-use Rattle.pec_pes_codec.proofs.Names.{Pec, Pes, file_meaning, front_of}
-use Rattle.pec_pes_codec.proofs.FrontLemmas.{is_behind, keeps_laws}
-use Rattle.pec_pes_codec.proofs.theorems.written_reads_again.Goals as goal
-
-pub returns : goal.returns
-returns c = record {
-  pec = λ d limits. keeps_laws (file_meaning Pec) (front_of Pec) (is_behind Pec) d (c.blocks_read_back.ensures d limits);
-  pes = λ d limits. keeps_laws (file_meaning Pes) (front_of Pes) (is_behind Pes) d (c.blocks_read_back.ensures d limits);
-}

@@ -1,6 +1,0 @@
-use Rattle.picture_parts.proofs.RootLemmas.{whole_root_is}
-use Rattle.picture_parts.proofs.lengths.root.Goals as goal
-
-pub returns-clause-value : goal.returns-clause-value
-returns-clause-value c = whole_root_is c.args.number c.isqrt.result c.ranges.number.fits
-    c.isqrt.ensures.square_le c.isqrt.ensures.next_square_gt

@@ -1,0 +1,5 @@
+mod LoadingFacts
+pub mod LoadLemmas
+mod FaultLemmas
+pub mod CallerLemmas
+mod CertificateFacts

@@ -1,0 +1,17 @@
+//! The input files of all programs: bytes, designs, drawings and certificates. A file that is not read, or that is not
+//! what it should be, is a failure with the text about its first fault.
+#![tactic(auto)]
+
+mod certificate_files;
+mod drawing_files;
+mod drawing_lines;
+mod fault_failures;
+mod format_indexes;
+mod loading;
+mod reading;
+
+pub use certificate_files::cert_in;
+pub use drawing_files::{drawing_as2_in, drawing_in};
+pub use drawing_lines::{LinesRead, lines_in};
+pub use format_indexes::{Found, format_at, load_at, load_found};
+pub use reading::read_input;
