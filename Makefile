@@ -1,34 +1,53 @@
-# make help lists the targets. The three programs run by themselves: they need the C library alone.
+# make help lists the targets. The programs run by themselves: they need the C library alone.
 VERSION = 0.3.0
-PREFIX ?= /usr/local
-BIN = $(DESTDIR)$(PREFIX)/bin
-SHARE = $(DESTDIR)$(PREFIX)/share
-MAN = $(SHARE)/man/man1
-BASH = $(SHARE)/bash-completion/completions
-ZSH = $(SHARE)/zsh/site-functions
-FISH = $(SHARE)/fish/vendor_completions.d
-NAMES = stitch stitch_picture stitch_drawing
+prefix ?= /usr/local
+PREFIX ?= $(prefix)
+ifeq ($(origin prefix),command line)
+PREFIX = $(prefix)
+endif
+NAMES := $(shell ./build --list)
 PROGRAMS = $(foreach name,$(NAMES),crates/$(name)/out/$(name))
+# The places below PREFIX. Debian has another folder for completions of zsh.
+BASH = share/bash-completion/completions
+ZSH = share/zsh/site-functions
+FISH = share/fish/vendor_completions.d
+DEBIAN_ZSH = share/zsh/vendor-completions
+DOC = share/doc/stitch
 MAINTAINER = Kaouzbrel maintainers <maintainers@users.noreply.kaouzbrel.example>
 
-.PHONY: build built copy debian help install package test uninstall version
-build: ## prove and build the programs
-	./build
-	./build stitch_picture
-	./build stitch_drawing
+# What the tar file and the folder in it are called, and the folder from which the Debian package is made.
+BUNDLE = stitch-$(VERSION)-$(shell uname -m)
+TREE = out/package/debian
 
-install: built ## install them with manuals and completions below PREFIX, /usr/local if not given
-	$(MAKE) --no-print-directory copy
+ifneq ($(words x$(PREFIX)$(DESTDIR)x),1)
+$(error PREFIX or DESTDIR ('$(PREFIX)', '$(DESTDIR)') has a space, and these recipes can install below no such folder)
+endif
+
+# The lines that copy all that is installed below the folder $(1), with completions of zsh in its folder $(2).
+define copy
+install -d $(1)/bin $(1)/share/man/man1 $(1)/$(BASH) $(1)/$(2) $(1)/$(FISH) $(1)/$(DOC)/docs
+install -m 755 $(PROGRAMS) $(1)/bin
+install -m 644 $(NAMES:%=man/%.1) $(1)/share/man/man1
+for name in $(NAMES); do install -m 644 completions/$$name.bash $(1)/$(BASH)/$$name || exit; done
+install -m 644 $(NAMES:%=completions/_%) $(1)/$(2)
+install -m 644 $(NAMES:%=completions/%.fish) $(1)/$(FISH)
+install -m 644 README.md CHANGELOG.md $(1)/$(DOC)
+install -m 644 docs/*.md docs/*.svg $(1)/$(DOC)/docs
+endef
+
+.PHONY: build built cleared debian help install package tar test uninstall version
+build: ## prove and build the programs, in one run of the gate
+	./build
+
+install: built ## install them with manuals, completions and documents below PREFIX, /usr/local if not given
+	$(call copy,$(DESTDIR)$(PREFIX),$(ZSH))
 
 uninstall: ## remove what install installed
-	rm -f $(addprefix $(BIN)/,$(NAMES)) $(addprefix $(MAN)/,$(NAMES:=.1)) $(addprefix $(BASH)/,$(NAMES))
-	rm -f $(addprefix $(ZSH)/_,$(NAMES)) $(addprefix $(FISH)/,$(NAMES:=.fish))
+	rm -f $(addprefix $(DESTDIR)$(PREFIX)/,$(NAMES:%=bin/%) $(NAMES:%=share/man/man1/%.1) $(NAMES:%=$(BASH)/%))
+	rm -f $(addprefix $(DESTDIR)$(PREFIX)/,$(NAMES:%=$(ZSH)/_%) $(NAMES:%=$(FISH)/%.fish))
+	rm -rf $(DESTDIR)$(PREFIX)/$(DOC)
 
-package: built ## write a tar file and, with dpkg-deb, a Debian package to out/, for users without the kit
-	rm -rf out/package out/stitch*
-	name=stitch-$(VERSION)-$$(uname -m) && $(MAKE) --no-print-directory copy DESTDIR=out/package/ PREFIX=$$name && \
-		tar -C out/package --sort=name --owner=0 --group=0 --numeric-owner -czf out/$$name.tar.gz $$name
-	if command -v dpkg-deb > /dev/null; then $(MAKE) --no-print-directory debian; fi
+package: tar $(if $(shell command -v dpkg-deb),debian) ## write a tar file and, with dpkg-deb, a Debian package to out/, for users without the kit
 	rm -rf out/package
 	@ls out/stitch*
 
@@ -41,25 +60,21 @@ version: ## print the version
 help: ## list these targets
 	@sed -n 's/^\([a-z]*\):.*## /\1\t/p' $(firstword $(MAKEFILE_LIST)) | expand -t 12
 
-# As root nothing is proved to install or pack the programs: both must be there.
+# As root nothing is proved to install or pack the programs: they must be up to date.
 built:
-	@[ "$$(id -u)" -eq 0 ] || exec $(MAKE) --no-print-directory build; \
-	for program in $(PROGRAMS); do \
-		[ -x $$program ] || { echo "make: $$program isn't built, and this proves nothing as root: type 'make build' first" >&2; exit 1; }; \
-	done
+	@if [ "$$(id -u)" -ne 0 ]; then ./build; elif ! ./build --check; then \
+		echo "make: as root this proves nothing: type 'make build' first" >&2; exit 1; fi
 
-copy:
-	install -d $(BIN) $(MAN) $(BASH) $(ZSH) $(FISH)
-	install -m 755 $(PROGRAMS) $(BIN)
-	install -m 644 $(NAMES:%=man/%.1) $(MAN)
-	for name in $(NAMES); do install -m 644 completions/$$name.bash $(BASH)/$$name; done
-	install -m 644 $(NAMES:%=completions/_%) $(ZSH)
-	install -m 644 $(NAMES:%=completions/%.fish) $(FISH)
+cleared: built
+	rm -rf out/package out/stitch*
+
+tar: cleared
+	$(call copy,out/package/$(BUNDLE),$(ZSH))
+	tar -C out/package --sort=name --owner=0 --group=0 --numeric-owner -czf out/$(BUNDLE).tar.gz $(BUNDLE)
 
 # The Debian package. It needs the C library of at least the version that the programs name.
-debian: TREE = out/package/debian
-debian:
-	$(MAKE) --no-print-directory copy DESTDIR=$(TREE) PREFIX=/usr ZSH=$(TREE)/usr/share/zsh/vendor-completions
+debian: cleared
+	$(call copy,$(TREE)/usr,$(DEBIAN_ZSH))
 	gzip -9n $(TREE)/usr/share/man/man1/*.1
 	install -d $(TREE)/DEBIAN
 	libc=$$(grep -aoh 'GLIBC_2\.[0-9]*' $(PROGRAMS) | sort -V | tail -n 1) && \

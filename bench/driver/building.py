@@ -12,7 +12,7 @@ def say(text):
 
 def build_stitch():
     say("building stitch; from nothing this takes some minutes")
-    subprocess.run([REPOSITORY / "build"], check=True)
+    subprocess.run([REPOSITORY / "build", "stitch"], check=True)
 
 
 def build_plain(name):

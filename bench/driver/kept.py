@@ -14,9 +14,9 @@ CRATES = REPOSITORY / "crates"
 
 def stands_on():
     """The crates that each crate of the repository needs, lowest first."""
-    rows = [line.split("#")[0] for line in (REPOSITORY / "crates.txt").read_text().splitlines()]
-    parts = [row.split(":") for row in rows if row.strip()]
-    return {name.strip(): libraries.split() for name, libraries in parts}
+    lines = (REPOSITORY / "crates.txt").read_text().splitlines()
+    rows = [line.split("#")[0].partition(":") for line in lines]
+    return {name.split()[0]: libraries.split() for name, _, libraries in rows if name.strip()}
 
 
 def all_below(libraries, rows):

@@ -22,7 +22,7 @@ def run(args, **more):
 
 def built():
     """The program, proved and built."""
-    run([os.path.join(HOME, "build")])
+    run([os.path.join(HOME, "build"), "stitch"])
     return os.path.join(HOME, "crates", "stitch", "out", "stitch")
 
 
