@@ -1,11 +1,11 @@
 #!/usr/bin/env python3
 """Lists the lemmas whose statement stands more than once, whatever their variables are called.
 
-    bench/copies.py [--all] [--lines]
+    bench/copies.py [--all]
 
 A statement is the type of a lemma at the top level of a file of proofs/. Answers, invariants, worked facts and what has
 a value as its result (a list, a point, a type) don't count. Without --all only those are listed that stand in two crates
-or more. --lines prints for each crate its lines of code, its lines of proof and its functions, without blanks and comments.
+or more.
 """
 import collections
 import glob
@@ -16,7 +16,6 @@ import sys
 HOME = os.path.join(os.path.dirname(os.path.abspath(__file__)), "..", "crates")
 START = re.compile(r"^(?:pub )?(?:abbrev )?(?:pub )?([A-Za-z_◌][^\s:({]*)\s*:(?=\s|$)")
 NAME = re.compile(r"[A-Za-z_][\w'’]*(?:-[\w']+)*")
-FUNCTION = re.compile(r"\s*(?:pub(?:\([a-z]+\))? )?(?:const )?fn ")
 
 
 def lemmas(path):
@@ -73,29 +72,7 @@ def is_lemma(statement):
                 and not re.match(r"(Type|Bool|List|Option|Result)\b|\w*Value\b|\w+$", result.strip()))
 
 
-def code_lines(folder, ending, comment):
-    rows = []
-    for path in glob.glob(os.path.join(folder, "**", "*." + ending), recursive=True):
-        rows += [row for row in open(path, encoding="utf-8")
-                 if row.strip() and not row.strip().startswith(comment)]
-    return rows
-
-
-def print_lines():
-    total = [0, 0, 0]
-    for folder in sorted(glob.glob(os.path.join(HOME, "*"))):
-        code = code_lines(os.path.join(folder, "src"), "rt", "//")
-        proof = code_lines(os.path.join(folder, "proofs"), "antt", "--")
-        row = [len(code), len(proof), sum(1 for line in code if FUNCTION.match(line))]
-        total = [a + b for a, b in zip(total, row)]
-        print("%-20s %6d %6d %4d" % (os.path.basename(folder), *row))
-    print("%-20s %6d %6d %4d" % ("all", *total))
-
-
 def main():
-    if "--lines" in sys.argv:
-        print_lines()
-        return
     places = collections.defaultdict(list)
     for path in sorted(glob.glob(os.path.join(HOME, "*", "proofs", "**", "*.antt"), recursive=True)):
         if path.endswith(("Answers.antt", "Invariants.antt", "Facts.antt")):
