@@ -1,4 +1,3 @@
-
 use std::alloc::{AllocError, AllocFailed};
 
 /// Out of memory.

@@ -6,7 +6,7 @@ ghost use Rattle.std.specs.Prelude.{◌≡◌, IfOk, string_bytes};
 use design_model::{Bytes, Memory};
 use drawing_repairs::{SnapFault, VanishedLine};
 use line_graph::DrawKind;
-use program_shell::{Failure, bytes_of, describe_file, refused};
+use program_shell::{Failure, describe_file, refused, text_bytes};
 use program_texts::kind_text;
 use std::alloc::Global;
 
@@ -21,8 +21,7 @@ pub fn describe_snap(
     ensures { IfOk result (λ text. text ≡ snap_report moved listed before after) }
 {
     let line = snap_line(alloc, moved, listed, before, after)?;
-    let text = bytes_of(alloc, line.as_bytes())?;
-    Ok(text)
+    Ok(text_bytes(line))
 }
 
 fn snap_line(

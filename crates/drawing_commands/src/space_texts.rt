@@ -8,12 +8,12 @@ ghost use Rattle.std.specs.Prelude.{◌≡◌, IfOk, string_bytes};
 
 use design_model::{Bytes, Memory};
 use line_graph::{DrawKind, Drawing, drawing_cost};
-use program_shell::{Failure, bytes_of, describe_file, refused};
+use program_shell::{Failure, describe_file, refused, text_bytes};
 use program_texts::kind_text;
 use std::alloc::Global;
 
 /// Returns the report of `space` on a drawing before and after.
-pub(crate) fn print_space(
+pub(crate) fn describe_space(
     alloc: Global,
     before: &Drawing,
     after: &Drawing,
@@ -23,7 +23,7 @@ pub(crate) fn print_space(
 {
     let points = describe_points(alloc, point_total(before), point_total(after))?;
     let costs = describe_costs(alloc, drawing_cost(before), drawing_cost(after), pieces)?;
-    let mut text = bytes_of(alloc, points.as_bytes())?;
+    let mut text = text_bytes(points);
     text.append(costs.as_bytes())?;
     Ok(text)
 }

@@ -6,7 +6,7 @@ ghost use Rattle.program_shell.specs.Products.{product_value};
 ghost use Rattle.program_shell.specs.StepOutcomes.{RunsPlan, RunsPurePlan};
 ghost use Rattle.std.specs.Prelude.{IfOk};
 
-use crate::space_texts::{print_space, space_failure};
+use crate::space_texts::{describe_space, space_failure};
 use crate::whole_files::whole_product;
 use command_words::FileNames;
 use design_model::Memory;
@@ -59,7 +59,7 @@ fn space_product<'a>(
         IsSpaceProduct output.now before.now spaced.now (product_value product)) }
 {
     let pieces = pieces(alloc, &spaced.joined)?;
-    let report = print_space(alloc, before, &spaced.drawn, pieces.len())?;
+    let report = describe_space(alloc, before, &spaced.drawn, pieces.len())?;
     let product = whole_product(alloc, output, &spaced.drawn, &spaced.joined, report)?;
     Ok(product)
 }

@@ -11,12 +11,12 @@ use crate::store::{Failed, ReadStop, Store};
 use crate::turns::read_some;
 use crate::writing::write_all;
 use arrayvec::ArrayVec;
-use std::{fs, io};
 use std::alloc::Global;
 use std::fs::File;
 use std::io::{Read, Seek, SeekFrom};
 use std::marker::Model;
 use std::rt::Files;
+use std::{fs, io};
 
 /// An open file that was read from its beginning up to an offset, where reading can continue.
 #[derive(Drop)]

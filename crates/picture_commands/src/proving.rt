@@ -12,7 +12,7 @@ use line_graph::Drawing;
 use odd_cuts::Cert;
 use outside_io::Store;
 use program_inputs::{cert_in, drawing_in};
-use program_shell::{Failure, Made, one_output};
+use program_shell::{Failure, Made, one_output, refusal};
 use route_texts::describe_reason;
 use std::alloc::Global;
 
@@ -56,7 +56,7 @@ fn shown<'a>(alloc: Global, names: ProofNames<'a>, drawing: &Drawing, cert: &Cer
         Err(ProofFault::Memory) => Err(Failure::Memory),
         Err(ProofFault::Wrong(why)) => {
             let text = describe_reason(alloc, why)?;
-            Err(Failure::Refused(text))
+            Err(refusal(text))
         }
     }
 }

@@ -6,9 +6,9 @@ ghost use Rattle.program_shell.specs.FileTexts.{too_long_text};
 ghost use Rattle.program_shell.specs.StepOutcomes.{IsRefusalWith, ReadsInput};
 ghost use Rattle.std.specs.Prelude.{◌≡◌, Err};
 
-use design_model::{Bytes, MAX_FILE, Memory};
+use design_model::{Bytes, MAX_FILE};
 use outside_io::{GetFault, Store, read_whole};
-use program_shell::{Failure, Step, describe_file};
+use program_shell::{Failure, Step, describe_file, refused};
 use std::alloc::Global;
 
 /// Reads the bytes of an input file.
@@ -39,8 +39,5 @@ pub(crate) fn read_failure<'a>(alloc: Global, name: &'a str, fault: GetFault) ->
 fn too_long<'a>(alloc: Global, name: &'a str) -> Failure<'a>
     ensures { IsRefusalWith (too_long_text name.now) result }
 {
-    match describe_file(alloc, name, "longer than 67108864 bytes") {
-        Ok(text) => Failure::Refused(text),
-        Err(Memory) => Failure::Memory,
-    }
+    refused(describe_file(alloc, name, "longer than 67108864 bytes"))
 }

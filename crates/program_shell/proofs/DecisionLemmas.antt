@@ -1,5 +1,5 @@
 -- If no fault is counted, the arguments and the files determine the status.
-use Rattle.std.proofs.Common.{◌≡◌, ℕ, Bool, true, false, ◌≤◌, inl, inr, List, Option, Some, None, IsSome, length, ap, refl, string_bytes, subst, arith}
+use Rattle.std.proofs.Common.{◌≡◌, ℕ, Bool, true, false, ◌≤◌, inl, inr, List, Option, Some, None, IsSome, length, ap, refl, subst, arith}
 use Rattle.program_shell.proofs.Names.{nat_tests, UnlessOutOfMemory, Files, FileHolds, Failure, Status, IsInputContent, Makes, LacksInput, Plan, accepts, satisfies, reads, refuses, ProductValue, Program, IsFaultlessRun, Views, IsDecided, ReportsFailure, all, but_report, up_to, IsFailureOf, status_of, IsExact, IsFileLonger, LacksFile, AttemptsRead, IsAccepted, IsInputTooLong, Refuses, IsRequested, IsOrOutOfMemory, status_is_out_of_memory}
 use Rattle.design_model.specs.declared.limits.TheConstants.{MAX_FILE}
 use Rattle.program_shell.specs.declared.failure.Failure.TheVariants as failure
@@ -93,7 +93,7 @@ halt_came : (plan : Plan) (before after : Views) (s : Status) (why : Failure) �
 halt_came plan before after s failure.BadArguments quiet never is = absurd never
 halt_came plan before after s (failure.MissingInput name) quiet (misses, store) is = came_missing name.now misses is
 halt_came plan before after s (failure.ReadFailed name) quiet (attempted, fault, files) is = absurd (no_rise _ _ quiet.store fault.rose)
-halt_came plan before after s (failure.Refused why) quiet (refused, store) is = came_refused (string_bytes why) refused is
+halt_came plan before after s (failure.Refused why) quiet (refused, store) is = came_refused why refused is
 halt_came plan before after s failure.Memory quiet same is = came_memory is
 
 came : (program usage : List ℕ) (plan : Plan) (before after : Views) (s : Status) → IsFaultlessRun before after

@@ -1,5 +1,5 @@
 -- The outcome of a run, told apart by status.
-use Rattle.std.proofs.Common.{◌≡◌, ◌∙◌, ℕ, inl, inr, List, Option, Some, None, refl, string_bytes, subst, sym}
+use Rattle.std.proofs.Common.{◌≡◌, ◌∙◌, ℕ, inl, inr, List, Option, Some, None, refl, subst, sym}
 use Rattle.program_shell.proofs.Names.{Failure, Status, IsSoundProgram, cannot_print_line, cannot_read_line, cannot_write_line, message_line, out_of_memory_line, Makes, ProductValue, Program, ReportsLineWithStatus, IsPlannedOutcome, IsDone, IsFault, IsMemory, IsRefused, IsUsage, RunEnds, Views, Delivers, failure_line, all, but_report, up_to, IsFailureOf, status_of, missing, not_read, not_written, unprinted, failed, memory, refused, usage}
 use Rattle.program_shell.specs.declared.failure.Failure.TheVariants as failure
 use Rattle.program_shell.specs.declared.status.Status.TheVariants as status
@@ -53,8 +53,8 @@ module _ {Order : Type 0} (program : Program Order) where
       planned_means (Some order) before after status.Fault (cannot_read_line program.name name.now) s
       (failed order refl refl (not_read name.now refl (record { attempted = attempted; fault = fault; files = files; out = out }))) tells
   halt_means order before after s (failure.Refused why) (refuses, store) out tells =
-      planned_means (Some order) before after status.Refused (message_line program.name (string_bytes why)) s
-      (refused order (string_bytes why) refl refl refl refuses (record { store = store; out = out })) tells
+      planned_means (Some order) before after status.Refused (message_line program.name why) s
+      (refused order why refl refl refl refuses (record { store = store; out = out })) tells
   halt_means order before after s failure.Memory store out tells =
       planned_means (Some order) before after status.Memory (out_of_memory_line program.name) s
       (memory refl refl (record { store = store; out = out })) tells

@@ -1,5 +1,5 @@
 -- The outcomes of finishing a run: a product is delivered, or a failure is reported.
-use Rattle.std.specs.Prelude.{◌≡◌, ◌⊎◌, ℕ, List, Result, Ok, Err, string_bytes}
+use Rattle.std.specs.Prelude.{◌≡◌, ◌⊎◌, ℕ, List, Result, Ok, Err}
 use Rattle.outside_io.specs.Views.{SinkView}
 use Rattle.program_shell.specs.declared.failure.Failure.{Failure}
 use Rattle.program_shell.specs.declared.failure.Failure.TheVariants as failure
@@ -17,7 +17,7 @@ abbrev pub failure_line : (program usage : List ℕ) → Failure → List ℕ
 failure_line program usage failure.BadArguments = usage
 failure_line program usage (failure.MissingInput name) = cannot_read_line program name.now
 failure_line program usage (failure.ReadFailed name) = cannot_read_line program name.now
-failure_line program usage (failure.Refused text) = message_line program (string_bytes text)
+failure_line program usage (failure.Refused text) = message_line program text
 failure_line program usage failure.Memory = out_of_memory_line program
 
 -- The outcome of printing the report: it is printed, or the line of the program about the failed

@@ -1,5 +1,5 @@
 -- The outcomes of the steps of a run: reading an input, and running a plan.
-use Rattle.std.specs.Prelude.{◌≡◌, ◌⊎◌, ℕ, Bool, false, List, Option, Some, None, Result, Ok, Err, string_bytes}
+use Rattle.std.specs.Prelude.{◌≡◌, ◌⊎◌, ℕ, Bool, false, List, Option, Some, None, Result, Ok, Err}
 use Rattle.outside_io.specs.Blames.{read_call}
 use Rattle.outside_io.specs.Causes.{CallFailed}
 use Rattle.outside_io.specs.Files.{LacksFile}
@@ -29,13 +29,13 @@ IsFailureOf plan store store' (failure.MissingInput name) = LacksInput plan stor
     × (store' ≡ store)
 IsFailureOf plan store store' (failure.ReadFailed name) = AttemptsRead plan store.files name.now
     × CallFailed store store' (read_call name.now) × (store'.files ≡ store.files)
-IsFailureOf plan store store' (failure.Refused text) = Refuses plan store.files (string_bytes text)
+IsFailureOf plan store store' (failure.Refused text) = Refuses plan store.files text
     × (store' ≡ store)
 IsFailureOf plan store store' failure.Memory = store' ≡ store
 
 -- A refusal with that text, or out of memory.
 abbrev pub IsRefusalWith : List ℕ → Failure → Type 0
-IsRefusalWith expected (failure.Refused text) = string_bytes text ≡ expected
+IsRefusalWith expected (failure.Refused text) = text ≡ expected
 IsRefusalWith expected failure.Memory = Unit {0}
 IsRefusalWith expected other = ⊥
 
@@ -43,7 +43,7 @@ IsRefusalWith expected other = ⊥
 -- out of memory. A fault that is out of memory isn't refused.
 abbrev pub IsFaultFailure : Bool → List ℕ → Failure → Type 0
 IsFaultFailure memory expected (failure.Refused text) =
-    (string_bytes text ≡ expected) × (memory ≡ false)
+    (text ≡ expected) × (memory ≡ false)
 IsFaultFailure memory expected failure.Memory = Unit {0}
 IsFaultFailure memory expected other = ⊥
 
@@ -89,7 +89,7 @@ ReadsInput name store store' (Err (failure.MissingInput missing)) =
 ReadsInput name store store' (Err (failure.ReadFailed lost)) =
     (lost.now ≡ name) × CallFailed store store' (read_call name) × (store'.files ≡ store.files)
 ReadsInput name store store' (Err (failure.Refused text)) =
-    (string_bytes text ≡ too_long_text name) × IsInputTooLong store.files name × (store' ≡ store)
+    (text ≡ too_long_text name) × IsInputTooLong store.files name × (store' ≡ store)
 ReadsInput name store store' (Err failure.Memory) = store' ≡ store
 
 -- An input file was read, and its bytes parse to that result.
@@ -119,5 +119,5 @@ ParsesInput says text_of name store store' (Err (failure.ReadFailed lost)) =
     ReadsInput name store store' (Err (failure.ReadFailed lost))
 ParsesInput says text_of name store store' (Err (failure.Refused text)) =
     ReadsInput name store store' (Err (failure.Refused text))
-    ⊎ IsRefusedInput says text_of name store store' (string_bytes text)
+    ⊎ IsRefusedInput says text_of name store store' text
 ParsesInput says text_of name store store' (Err failure.Memory) = store' ≡ store

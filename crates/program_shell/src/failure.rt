@@ -2,7 +2,8 @@ ghost use Rattle.program_shell.specs.StepOutcomes.{IsRefusalWith};
 ghost use Rattle.program_shell.specs.declared.failure.Failure.TheVariants as failure;
 ghost use Rattle.std.specs.Prelude.{◌≡◌, IfOk, List, string_bytes, ℕ};
 
-use design_model::Memory;
+use crate::product::text_bytes;
+use design_model::{Bytes, Memory};
 
 /// Why an order made no product.
 #[derive(Drop)]
@@ -14,7 +15,7 @@ pub enum Failure<'a> {
     /// A read of an input file failed.
     ReadFailed(&'a str),
     /// The order is refused, with a text that names the fault and its place.
-    Refused(String),
+    Refused(Bytes),
     /// Out of memory.
     Memory,
 }
@@ -30,13 +31,20 @@ impl<'a> From<Memory> for Failure<'a> {
     }
 }
 
+/// Returns the refusal with a text, whose bytes are not copied.
+pub fn refusal<'a>(text: String) -> Failure<'a>
+    ensures { result ≡ failure.Refused (string_bytes text) }
+{
+    Failure::Refused(text_bytes(text))
+}
+
 /// Returns the refusal with a text, or out of memory where there is none.
 pub fn refused<'a>(text: Result<String, Memory>) -> Failure<'a>
     ensures { (expected : List ℕ) → IfOk text (λ is. string_bytes is ≡ expected)
         → IsRefusalWith expected result }
 {
     match text {
-        Ok(text) => Failure::Refused(text),
+        Ok(text) => refusal(text),
         Err(Memory) => Failure::Memory,
     }
 }

@@ -11,9 +11,11 @@ mod putting;
 mod starting;
 mod status;
 
-pub use failure::{Failure, Step, refused};
+pub use failure::{Failure, Step, refusal, refused};
 pub use file_texts::{describe_file, describe_part, describe_read_fault, refused_part};
 pub use finishing::finish;
-pub use product::{Made, Output, Product, bytes_of, one_output, only_report, two_outputs};
+pub use product::{
+    Made, Output, Product, bytes_of, one_output, only_report, text_bytes, two_outputs,
+};
 pub use starting::start;
 pub use status::Status;

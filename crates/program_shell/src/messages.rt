@@ -23,7 +23,7 @@ pub(crate) fn report_failure<E: Sink>(
         Failure::BadArguments => report_text(err, &[usage], Status::Usage),
         Failure::MissingInput(name) => report_cannot_read(err, program, name),
         Failure::ReadFailed(name) => report_cannot_read(err, program, name),
-        Failure::Refused(text) => report_line(err, program, text.as_bytes(), Status::Refused),
+        Failure::Refused(text) => report_line(err, program, text.as_slice(), Status::Refused),
         Failure::Memory => report_out_of_memory(err, program),
     }
 }

@@ -1,5 +1,5 @@
 ghost use Rattle.program_shell.specs.Products.{one_file_product, report_product, product_value, two_file_product, output_value};
-ghost use Rattle.std.specs.Prelude.{◌≡◌, IfOk};
+ghost use Rattle.std.specs.Prelude.{◌≡◌, IfOk, string_bytes};
 
 use crate::failure::Step;
 use design_model::{Bytes, Items, Memory};
@@ -70,4 +70,11 @@ pub fn bytes_of(alloc: Global, text: &[u8]) -> Result<Bytes, Memory>
     let mut bytes = Bytes::new(alloc);
     bytes.append(text)?;
     Ok(bytes)
+}
+
+/// Returns the bytes of a text, which are not copied.
+pub fn text_bytes(text: String) -> Bytes
+    ensures { result ≡ string_bytes text }
+{
+    Bytes::from_vec(text.into_bytes())
 }

@@ -13,9 +13,7 @@ pub use dst_codec::Dst;
 pub use exp_codec::Exp;
 pub use format_traits::{Format, Loaded, ReadFault, WriteFault};
 pub use hoop_check::Fit;
-pub use line_graph::{
-    DrawKind, Drawing, DrawingMaker, Edge, Edges, Pass, Piece, Pieces, Walk,
-};
+pub use line_graph::{DrawKind, Drawing, DrawingMaker, Edge, Edges, Pass, Piece, Pieces, Walk};
 pub use odd_paths::Rows;
 pub use outside_io::{
     DirStore, Failed, GetFault, MemSink, MemStore, ReadStop, Sink, StdSink, Store,

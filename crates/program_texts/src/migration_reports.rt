@@ -4,7 +4,7 @@ ghost use Rattle.std.specs.Prelude.{◌≡◌, IfOk, length};
 
 use design_model::{Bytes, Memory};
 use line_graph::{Drawing, drawing_cost};
-use program_shell::bytes_of;
+use program_shell::text_bytes;
 use std::alloc::Global;
 
 /// Returns the report of a migration of a drawing with that number of pieces: the numbers of lines and pieces,
@@ -15,6 +15,5 @@ pub fn describe_migration(alloc: Global, drawing: &Drawing, pieces: usize) -> Re
 {
     let (lines, cost) = (drawing.line_count(), drawing_cost(drawing));
     let line = format!(in alloc; "lines {lines} pieces {pieces} cost {cost}\n")?;
-    let text = bytes_of(alloc, line.as_bytes())?;
-    Ok(text)
+    Ok(text_bytes(line))
 }

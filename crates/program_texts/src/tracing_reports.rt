@@ -4,7 +4,7 @@ ghost use Rattle.std.specs.Prelude.{◌≡◌, ◌≤◌, IfOk, length};
 
 use design_model::{Bytes, Memory, Point};
 use line_graph::Drawing;
-use program_shell::bytes_of;
+use program_shell::text_bytes;
 use std::alloc::Global;
 
 /// Returns the report of a tracing: the number of blocks and lines of its drawing, and of links, each a
@@ -15,8 +15,7 @@ pub fn describe_tracing(alloc: Global, drawing: &Drawing) -> Result<Bytes, Memor
     let (blocks, lines) = (drawing.block_count(), drawing.line_count());
     let links = segments(drawing);
     let line = format!(in alloc; "blocks {blocks} lines {lines} links {links}\n")?;
-    let text = bytes_of(alloc, line.as_bytes())?;
-    Ok(text)
+    Ok(text_bytes(line))
 }
 
 /// Returns the number of segments of the lines of a drawing.

@@ -129,7 +129,12 @@ fn keep_commands(design: &mut Design, at: u64, event: Event, there: Point) -> Re
 /// readers' loops.
 #[cold]
 #[inline(never)]
-fn keep_thread_end(design: &mut Design, at: u64, event: Event, there: Point) -> Result<(), ReadFault>
+fn keep_thread_end(
+    design: &mut Design,
+    at: u64,
+    event: Event,
+    there: Point,
+) -> Result<(), ReadFault>
     requires { trims_or_stops event ≡ true }
     ensures value { AddsCommands at (event_commands_at event there) design.old result design.new }
     ensures others { SameButCommands design.old design.new }

@@ -15,7 +15,7 @@ use line_graph::Drawing;
 use odd_cuts::Cert;
 use outside_io::Store;
 use program_inputs::{cert_in, drawing_in, load_at};
-use program_shell::{Failure, Made, bytes_of, only_report};
+use program_shell::{Failure, Made, bytes_of, only_report, refusal};
 use route_texts::describe_reason;
 use route_verdict::{Verdict, judge};
 use std::alloc::Global;
@@ -107,7 +107,7 @@ fn judged<'a>(alloc: Global, drawing: &Drawing, design: &Design, cert: &Cert) ->
         }
         Verdict::No(why) => {
             let text = describe_reason(alloc, why)?;
-            Err(Failure::Refused(text))
+            Err(refusal(text))
         }
     }
 }

@@ -34,20 +34,58 @@ pub(crate) fn make_product<'a, S: Store>(
 {
     match request(words) {
         Some(Request::Route { drawing, out, cert }) => {
-            sew(alloc, Sewing::Route, route_names(drawing, out, cert), formats, store)
+            sew(
+                alloc,
+                Sewing::Route,
+                route_names(drawing, out, cert),
+                formats,
+                store,
+            )
         }
         Some(Request::Double { drawing, out, cert }) => {
-            sew(alloc, Sewing::Double, route_names(drawing, out, cert), formats, store)
+            sew(
+                alloc,
+                Sewing::Double,
+                route_names(drawing, out, cert),
+                formats,
+                store,
+            )
         }
-        Some(Request::Check { drawing, file, cert }) => {
-            check(alloc, route_names(drawing, file, cert), formats, store)
-        }
-        Some(Request::Convert { input, output, split, cut }) => {
-            let changes = Changes::Refits { splits: split, cuts: cut };
+        Some(
+            Request::Check {
+                drawing,
+                file,
+                cert,
+            },
+        ) => { check(alloc, route_names(drawing, file, cert), formats, store) }
+        Some(
+            Request::Convert {
+                input,
+                output,
+                split,
+                cut,
+            },
+        ) => {
+            let changes = Changes::Refits {
+                splits: split,
+                cuts: cut,
+            };
             rewrite(alloc, FileNames { input, output }, &changes, formats, store)
         }
-        Some(Request::Edit { input, output, edits }) => {
-            rewrite(alloc, FileNames { input, output }, &Changes::Edits(edits), formats, store)
+        Some(
+            Request::Edit {
+                input,
+                output,
+                edits,
+            },
+        ) => {
+            rewrite(
+                alloc,
+                FileNames { input, output },
+                &Changes::Edits(edits),
+                formats,
+                store,
+            )
         }
         Some(Request::Show { file }) => show(alloc, file, formats, store),
         Some(Request::Hoop { file, w, h }) => hoop(alloc, file, w, h, formats, store),

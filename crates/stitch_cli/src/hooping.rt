@@ -9,7 +9,7 @@ use format_traits::Format;
 use hoop_check::{Fit, fits};
 use outside_io::Store;
 use program_inputs::load_found;
-use program_shell::{Failure, Made, bytes_of, only_report};
+use program_shell::{Made, bytes_of, only_report, refusal};
 use program_texts::describe_too_large;
 use std::alloc::Global;
 
@@ -46,7 +46,7 @@ fn fitted<'a>(alloc: Global, fit: Fit) -> Made<'a>
         }
         Fit::No { over_x, over_y } => {
             let text = describe_too_large(alloc, over_x, over_y)?;
-            Err(Failure::Refused(text))
+            Err(refusal(text))
         }
     }
 }

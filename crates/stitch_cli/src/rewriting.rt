@@ -17,7 +17,7 @@ use design_model::{Design, Memory, counts};
 use format_traits::{Format, Loaded, WriteFault, encode_by, find, limit_of};
 use outside_io::Store;
 use program_inputs::{format_at, load_at};
-use program_shell::{Failure, Made, one_output, refused};
+use program_shell::{Failure, Made, one_output, refusal, refused};
 use program_texts::{describe_command, describe_no_place, describe_write_fault, describe_written};
 use std::alloc::Global;
 
@@ -167,7 +167,7 @@ fn encoded_product<'a>(
         Err(WriteFault::Memory) => Err(Failure::Memory),
         Err(fault) => {
             let text = describe_write_fault(alloc, name, limit_of(target), fault)?;
-            Err(Failure::Refused(text))
+            Err(refusal(text))
         }
     }
 }

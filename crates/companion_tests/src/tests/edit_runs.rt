@@ -1,6 +1,6 @@
 //! Runs of `stitch_drawing edit` over files in memory.
-use crate::{done, faulted, refused, unasked};
 use super::table_runs::Run;
+use crate::{done, faulted, refused, unasked};
 
 pub const FILES: &[(&str, &str)] = &[
     (

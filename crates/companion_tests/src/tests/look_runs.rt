@@ -1,6 +1,6 @@
 //! Runs of `stitch_drawing look`, and of other commands that no other table has, over files in memory.
-use crate::{done, faulted, refused, unasked};
 use super::table_runs::Run;
+use crate::{done, faulted, refused, unasked};
 
 /// Two lines, one of which ends beside the other, and one that crosses.
 pub const FILES: &[(&str, &str)] = &[

@@ -1,6 +1,6 @@
 //! Runs of `stitch_drawing snap` over files in memory.
-use crate::{done, refused};
 use super::table_runs::Run;
+use crate::{done, refused};
 
 const SNAPPED: &str =
     "redwork 2\nname loose\nstep 10\ncolor 7\nline 0 0 20 2 40 0 80 0\nline 80 0 90 40\nline 20 30 20 2\ncolor 9\nline 20 -1 20 -30\n";

@@ -1,6 +1,6 @@
 //! Runs of `stitch_drawing space` over files in memory.
-use crate::{done, faulted, refused, unasked};
 use super::table_runs::Run;
+use crate::{done, faulted, refused, unasked};
 
 /// Points 4 apart on a line with stitches of 10, the same line spaced, points beside a stitch by 4 and by 3 tenths
 /// of a step, lines that meet inside, the same in version 1, and texts with faults.

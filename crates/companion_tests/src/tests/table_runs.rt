@@ -1,11 +1,11 @@
 //! Runs of commands of `stitch_drawing` over files in memory, by tables.
+use super::{edit_runs, look_runs, snap_runs, space_runs};
 use crate::contents::file_content;
 use drawing_commands::run;
 use outside_io::{MemSink, MemStore};
 use std::alloc::Global;
 use std::process::Abort;
 use std::test::Fail;
-use super::{edit_runs, look_runs, snap_runs, space_runs};
 
 /// A run: its arguments, separated by spaces; the calls that fail, from 1 on, of the store and of the puts on standard
 /// output and on standard error, 0 for none; and what it leaves: its status, what it prints on both, and the content of

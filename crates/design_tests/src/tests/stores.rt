@@ -2,11 +2,11 @@ use design_model::{Bytes, Memory};
 use outside_io::{
     DirStore, Failed, GetFault, MemSink, MemStore, ReadStop, Sink, StdSink, Store, read_whole,
 };
-use std::{fs, io};
 use std::alloc::{AllocError, Global};
 use std::io::Write;
 use std::os::unix::fs::symlink;
 use std::test::Fail;
+use std::{fs, io};
 use test_values::repeated;
 
 const FOLDER: &str = "outside_io_test";

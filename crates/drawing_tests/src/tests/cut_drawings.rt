@@ -1,12 +1,12 @@
 ghost use Rattle.std.specs.Prelude.{◌<◌};
 
+use super::drawings::DrawingPart::{self, Block, Line};
+use super::drawings::grown;
 use crate::points_of;
 use design_model::{Numbers, Point};
 use line_graph::{DrawKind, Drawing, DrawingMaker, Edge, Edges, Piece, pieces};
 use std::alloc::Global;
 use std::test::Fail;
-use super::drawings::grown;
-use super::drawings::DrawingPart::{self, Block, Line};
 
 /// An expected piece: its block, its lines, junctions, edges and degrees.
 type Wanted = (

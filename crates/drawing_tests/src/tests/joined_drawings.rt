@@ -1,10 +1,10 @@
+use super::drawings::DrawingPart::{Block, Line};
+use super::drawings::grown;
 use crate::points_of;
 use design_model::{Point, Points};
 use line_graph::{DrawKind, Drawing, DrawingMaker, join, joined};
 use std::alloc::Global;
 use std::test::Fail;
-use super::drawings::grown;
-use super::drawings::DrawingPart::{Block, Line};
 
 #[test]
 fn a_joined_drawing_has_the_sections_of_its_lines(rt: HostRuntime) -> Result<(), Fail> {

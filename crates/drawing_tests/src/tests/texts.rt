@@ -1,13 +1,13 @@
+use super::drawings::compare_squares;
 use design_model::{Bytes, MAX_FILE};
 use drawing_text::{DrawFault, print_drawing, print_drawing2, read_as2, read_drawing, read_lines};
-use line_graph::Drawing;
 use line_graph::DrawKind::{
     self, BadHeader, BadNumber, BadWord, EmptyBlock, FewPoints, NoBlock, OutOfRange, RepeatedPoint,
     TooManyBlocks, TooManyLines, TooManyPoints, TooMuchCost,
 };
+use line_graph::Drawing;
 use std::alloc::Global;
 use std::test::Fail;
-use super::drawings::compare_squares;
 use test_values::repeated;
 
 fn drawing(alloc: Global, text: &[u8]) -> Result<Drawing, DrawFault> {

@@ -1,3 +1,5 @@
+use super::feeding::{compare_counts, feed, read_all, written};
+use super::large_designs::{compare_reread, stops};
 use crate::square;
 use design_model::{Bytes, Command, Memory, Point};
 use dst_codec::{Dst, decode_move, encode_move};
@@ -5,8 +7,6 @@ use format_traits::{Format, Loaded, ReadFault, WriteFault, find};
 use std::alloc::Global;
 use std::process::Abort;
 use std::test::Fail;
-use super::feeding::{compare_counts, feed, read_all, written};
-use super::large_designs::{compare_reread, stops};
 use test_values::repeated;
 
 fn read(rt: &impl Abort, alloc: Global, bytes: &[u8]) -> Result<Loaded, ReadFault> {

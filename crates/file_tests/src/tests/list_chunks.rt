@@ -1,11 +1,11 @@
 ghost use Rattle.std.specs.Prelude.{◌<◌};
 
+use super::lists::{HEAD, SQUARE};
 use design_model::MAX_FILE;
 use format_traits::Format;
 use format_traits::ReadFault::{self, Control, Range, Short, Signature};
 use std::test::Fail;
 use stitch_text::List;
-use super::lists::{HEAD, SQUARE};
 use test_values::repeated;
 
 /// A case: a first text, a text once or n times, and a last text; the number of all bytes, the number of commands before

@@ -1,11 +1,11 @@
+use super::feeding::written;
+use super::large_designs::{compare_large, floating};
 use crate::square;
 use design_model::{Bytes, Command, Memory, Point};
 use format_traits::{Format, ReadFault, WriteFault};
 use std::alloc::Global;
 use std::test::Fail;
 use stitch_text::List;
-use super::feeding::written;
-use super::large_designs::{compare_large, floating};
 use test_values::repeated;
 
 /// The list of a square of 30 in thread 5, with its trim.

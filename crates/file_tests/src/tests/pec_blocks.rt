@@ -1,14 +1,14 @@
 ghost use Rattle.std.specs.Prelude.{◌≡◌, IsOk, false};
 
+use super::feeding::{SIZES, compare_parts};
+use super::large_designs::{compare_large, floating, stops};
 use design_model::{Bytes, Command, MAX_FILE, Memory, Point};
-use format_traits::{Fed, Loaded, WriteFault};
 use format_traits::ReadFault::{self, Range, Short};
+use format_traits::{Fed, Loaded, WriteFault};
 use pec_codec::{BlockReader, read_block, write_block};
 use std::alloc::Global;
 use std::process::Abort;
 use std::test::Fail;
-use super::feeding::{SIZES, compare_parts};
-use super::large_designs::{compare_large, floating, stops};
 use test_values::{design_of, repeated};
 
 /// A reader of blocks, and the number of bytes fed to it.

@@ -1,13 +1,13 @@
+use super::feeding::{feed, read_all, written};
+use super::large_designs::{compare_large, floating};
 use crate::square;
 use design_model::{Bytes, Command, Design, Memory, ModelFault, Point};
-use format_traits::{Format, Loaded};
 use format_traits::ReadFault::{self, Short, Signature};
+use format_traits::{Format, Loaded};
 use pes_codec::{Pec, Pes};
 use std::alloc::Global;
 use std::process::Abort;
 use std::test::Fail;
-use super::feeding::{feed, read_all, written};
-use super::large_designs::{compare_large, floating};
 use test_values::repeated;
 
 fn read_pec(rt: &impl Abort, alloc: Global, bytes: &[u8]) -> Result<Loaded, ReadFault> {

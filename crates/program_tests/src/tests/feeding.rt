@@ -1,4 +1,5 @@
 //! A stitch file is fed to its format part by part, and not decoded as a whole.
+use super::cases::{arguments, behind};
 use design_model::{Bytes, Command, Design, Memory};
 use dst_codec::Dst;
 use format_traits::{Format, Loaded, ReadFault, WriteFault};
@@ -6,7 +7,6 @@ use outside_io::{MemSink, MemStore};
 use std::alloc::Global;
 use std::test::Fail;
 use stitch_cli::{Status, run};
-use super::cases::{arguments, behind};
 
 /// The DST format, except that decoding an entire file always runs out of memory.
 #[derive(Drop)]

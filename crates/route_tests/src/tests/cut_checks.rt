@@ -1,14 +1,14 @@
 ghost use Rattle.odd_cuts.specs.CutFaults.{HaveNumberedMembers};
 ghost use Rattle.std.specs.Prelude.{◌+◌, ◌≤◌, IfOk, OnOk, length};
 
+use super::cert_parts::{members_of, pass_of};
+use super::routes::drawing_of;
 use design_model::Memory;
 use line_graph::{Pass, Piece, Pieces, pieces};
 use odd_cuts::{Cut, CutFault, Cuts, WalkFault, check_cuts, check_walk};
 use std::alloc::Global;
 use std::process::Abort;
 use std::test::Fail;
-use super::cert_parts::{members_of, pass_of};
-use super::routes::drawing_of;
 
 /// The lines 1, 3 and 6 from one junction to the others, the last of them towards it. The lines between them
 /// are in another piece.

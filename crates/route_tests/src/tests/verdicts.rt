@@ -1,6 +1,7 @@
 ghost use Rattle.route_verdict.specs.Verdicts.{HasShortLists};
 ghost use Rattle.std.specs.Prelude.{◌≤◌, All, IfOk, length};
 
+use super::cert_parts::{members_of, pass_of};
 use design_model::{Command, Design, Memory, ModelFault, Point};
 use drawing_tests::points_of;
 use line_graph::{DrawKind, Drawing, DrawingMaker, Walk};
@@ -8,7 +9,6 @@ use odd_cuts::{Cert, Cut, CutFault, Cuts, PieceCert, PieceCerts, WalkFault};
 use route_verdict::{Reason, Verdict, judge};
 use std::alloc::Global;
 use std::test::Fail;
-use super::cert_parts::{members_of, pass_of};
 use test_values::design_of;
 
 /// Strokes at step 10, each in a block of its own, from one x to another.
