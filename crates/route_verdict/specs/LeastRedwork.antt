@@ -1,6 +1,16 @@
 -- The headline: a design sews each piece of a drawing by one thread, and no thread over that piece
 -- needs fewer needle points. Read this file first, then what it names. Needle points are the
 -- penetrations of the cloth; costs count steps, weights of cuts count halves of a step.
+--
+-- How to read it. `A ≡ B` says that two values are equal, `A × B` that both statements hold.
+-- `(x : T) → P` says P of every x of type T, `(x : T) × P` of some x, and `P → Q` that P implies Q.
+-- `⊥` never holds, and `Unit {0}` always does. `λ x. e` is the function from x to e.
+-- A record of statements, as IsLeastThread, is a statement: it holds where all its fields do. A
+-- field of it that is a value, as `pieces : List (List ℕ)`, says that there is such a value, and
+-- later fields speak of it. In other records, as DrawingValue, all fields are values.
+-- `abbrev` begins a definition: its type, then its value, by cases. `pub` lets others import it.
+-- `Type 0` is the type of statements, and of types. The numbers ℕ begin at 0, and `-` stops there.
+-- A name from `specs.declared` is a type of the code: declared.cut.Cut is the struct of src/cut.rt.
 use Rattle.std.specs.Prelude.{◌≡◌, ℕ, ◌+◌, ◌*◌, ◌≤◌, List, length, map, IsTrue, sum_by}
 use Rattle.std.specs.List.{AllZip, list_all}
 use Rattle.odd_cuts.specs.declared.certificate.PieceCert.{PieceCert}
