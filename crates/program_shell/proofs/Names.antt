@@ -21,9 +21,9 @@ pub use Rattle.program_shell.specs.Puts.{PutFailed, Puts, ReportsLineWithStatus,
 pub use Rattle.program_shell.specs.RunFailures.{IsMissingInput, IsOutsideFailure, IsPrintFailure, IsReadFailure, IsWriteFailure, missing}
 pub use Rattle.program_shell.specs.RunFailures.{not_read, not_written, unprinted}
 pub use Rattle.program_shell.specs.RunViews.{IsFaultlessRun, IsUntouched, Views, views_of}
-pub use Rattle.program_shell.specs.ProgramRuns.{IsDecided, IsDone, IsFailed, IsFault, IsMemory, IsOrOutOfMemory, IsPlannedOutcome, IsRefused}
-pub use Rattle.program_shell.specs.ProgramRuns.{IsReportLost, IsRequested, IsUsage, KeepsOtherFiles, RunEnds, failed, memory, refused}
-pub use Rattle.program_shell.specs.ProgramRuns.{status_is_out_of_memory, usage}
+pub use Rattle.program_shell.specs.ProgramRuns.{IsDecided, IsDone, IsFailed, IsFault, IsMemory, IsOrOutOfMemory, IsPlannedOutcome}
+pub use Rattle.program_shell.specs.ProgramRuns.{IsRefused, IsReportLost, IsRequested, IsUsage, KeepsOtherFiles, RunEnds, failed, memory}
+pub use Rattle.program_shell.specs.ProgramRuns.{refused, status_is_out_of_memory, usage}
 pub use Rattle.program_shell.specs.StepOutcomes.{CanFinish, IsFailureOf, IsFaultFailure, IsParsedInput, IsPlanResult}
 pub use Rattle.program_shell.specs.StepOutcomes.{ParsesInput, ReadsInput, RunsPlan, RunsPurePlan, RunsRequest, status_of}
 pub use Rattle.program_shell.specs.declared.failure.Failure.{Failure}

@@ -1,14 +1,13 @@
-ghost use Rattle.command_words.specs.ValidNames.{AreRouteNames, route_names_value};
+ghost use Rattle.command_words.specs.ValidNames.{AreFileNames, AreRouteNames};
 ghost use Rattle.outside_io.specs.Files.{IsFileName};
 ghost use Rattle.program_shell.specs.StepOutcomes.{RunsRequest};
 ghost use Rattle.std.specs.Prelude.{◌≡◌, map, string_bytes};
 ghost use Rattle.stitch_cli.specs.Commands.{order_of, stitch};
 
-use crate::changes::Changes;
 use crate::checking::check;
 use crate::hooping::hoop;
 use crate::migrating::migrate;
-use crate::rewriting::rewrite;
+use crate::rewriting::{convert, edit};
 use crate::sampling::sample;
 use crate::sewing::sew;
 use crate::showing::show;
@@ -32,75 +31,41 @@ pub(crate) fn make_product<'a, S: Store>(
         (S.view store.old) (S.view store.new) result }
     ensures same { map (λ f. meaning f) formats.new ≡ map (λ f. meaning f) formats.old }
 {
-    match request(words) {
-        Some(Request::Route { drawing, out, cert }) => {
-            sew(
-                alloc,
-                Sewing::Route,
-                route_names(drawing, out, cert),
-                formats,
-                store,
-            )
+    let Some(requested) = request(words) else {
+        return Err(Failure::BadArguments);
+    };
+    match requested {
+        Request::Route { drawing, out, cert } => {
+            let names = route_names(drawing, out, cert);
+            sew(alloc, Sewing::Route, names, formats, store)
         }
-        Some(Request::Double { drawing, out, cert }) => {
-            sew(
-                alloc,
-                Sewing::Double,
-                route_names(drawing, out, cert),
-                formats,
-                store,
-            )
+        Request::Double { drawing, out, cert } => {
+            let names = route_names(drawing, out, cert);
+            sew(alloc, Sewing::Double, names, formats, store)
         }
-        Some(
-            Request::Check {
-                drawing,
-                file,
-                cert,
-            },
-        ) => { check(alloc, route_names(drawing, file, cert), formats, store) }
-        Some(
-            Request::Convert {
-                input,
-                output,
-                split,
-                cut,
-            },
-        ) => {
-            let changes = Changes::Refits {
-                splits: split,
-                cuts: cut,
-            };
-            rewrite(alloc, FileNames { input, output }, &changes, formats, store)
+        Request::Check {
+            drawing,
+            file,
+            cert,
+        } => check(alloc, route_names(drawing, file, cert), formats, store),
+        Request::Convert {
+            input,
+            output,
+            split,
+            cut,
+        } => convert(alloc, file_names(input, output), split, cut, formats, store),
+        Request::Edit {
+            input,
+            output,
+            edits,
+        } => edit(alloc, file_names(input, output), edits, formats, store),
+        Request::Show { file } => show(alloc, file, formats, store),
+        Request::Hoop { file, w, h } => hoop(alloc, file, w, h, formats, store),
+        Request::Sample { n, drawing } => sample(alloc, n, drawing),
+        Request::Migrate { input, output } => migrate(alloc, file_names(input, output), store),
+        Request::Trace { file, drawing } => {
+            trace_file(alloc, file_names(file, drawing), formats, store)
         }
-        Some(
-            Request::Edit {
-                input,
-                output,
-                edits,
-            },
-        ) => {
-            rewrite(
-                alloc,
-                FileNames { input, output },
-                &Changes::Edits(edits),
-                formats,
-                store,
-            )
-        }
-        Some(Request::Show { file }) => show(alloc, file, formats, store),
-        Some(Request::Hoop { file, w, h }) => hoop(alloc, file, w, h, formats, store),
-        Some(Request::Sample { n, drawing }) => sample(alloc, n, drawing),
-        Some(Request::Migrate { input, output }) => {
-            migrate(alloc, FileNames { input, output }, store)
-        }
-        Some(Request::Trace { file, drawing }) => {
-            let names = FileNames {
-                input: file,
-                output: drawing,
-            };
-            trace_file(alloc, names, formats, store)
-        }
-        None => Err(Failure::BadArguments),
     }
 }
 
@@ -110,11 +75,24 @@ fn route_names<'a>(drawing: &'a str, design: &'a str, cert: &'a str) -> RouteNam
     requires design { IsFileName design.now }
     requires cert { IsFileName cert.now }
     ensures named { AreRouteNames result }
-    ensures value { route_names_value result ≡ (drawing.now, design.now, cert.now) }
+    ensures drawing { result.drawing.now ≡ drawing.now }
+    ensures design { result.design.now ≡ design.now }
+    ensures cert { result.cert.now ≡ cert.now }
 {
     RouteNames {
         drawing,
         design,
         cert,
     }
+}
+
+/// Returns the names of a file that is read and of one that is written.
+fn file_names<'a>(input: &'a str, output: &'a str) -> FileNames<'a>
+    requires input { IsFileName input.now }
+    requires output { IsFileName output.now }
+    ensures named { AreFileNames result }
+    ensures input { result.input.now ≡ input.now }
+    ensures output { result.output.now ≡ output.now }
+{
+    FileNames { input, output }
 }

@@ -1,10 +1,13 @@
+ghost use Rattle.command_words.specs.Arguments.{parsed_edits};
+ghost use Rattle.command_words.specs.RefitFlags.{refit_changes};
 ghost use Rattle.command_words.specs.ValidNames.{AreFileNames};
+ghost use Rattle.command_words.specs.ValidRequests.{AreEdits};
 ghost use Rattle.format_traits.specs.Endings.{format_of};
 ghost use Rattle.format_traits.specs.Meanings.{Meaning};
 ghost use Rattle.outside_io.specs.Files.{IsFileName};
 ghost use Rattle.program_shell.specs.Plans.{satisfies};
 ghost use Rattle.program_shell.specs.StepOutcomes.{IsRefusalWith, RunsPlan, RunsPurePlan, RunsRequest};
-ghost use Rattle.std.specs.Prelude.{◌≡◌, ◌<◌, IfOk, Some, length, map, option_map, slice_get, string_bytes};
+ghost use Rattle.std.specs.Prelude.{◌≡◌, ◌<◌, IfOk, Some, length, map, option_map, slice_get, string_bytes, [], unwrap_or};
 ghost use Rattle.stitch_cli.specs.AppliedChanges.{AreValidChanges, change_list};
 ghost use Rattle.stitch_cli.specs.Commands.{stitch, rewriting};
 ghost use Rattle.stitch_cli.specs.RewriteSteps.{IsChangeFailure, IsEncodeResult};
@@ -28,8 +31,53 @@ struct FormatIndexes {
     target: usize,
 }
 
+/// Writes a design in another format, with long stitches split or floats cut as requested.
+pub(crate) fn convert<'a, S: Store>(
+    alloc: Global,
+    names: FileNames<'a>,
+    split: bool,
+    cut: bool,
+    formats: &mut [Box<dyn Format>],
+    store: &mut S,
+) -> Made<'a>
+    requires { AreFileNames names }
+    ensures answers { RunsRequest stitch (option_map (λ o. rewriting o)
+        (complete_rewrite names.entry.input.now names.entry.output.now (refit_changes split cut)
+        (format_of (map (λ f. meaning f) formats.old) names.entry.input.now)
+        (format_of (map (λ f. meaning f) formats.old) names.entry.output.now)))
+        (S.view store.old) (S.view store.new) result }
+    ensures same { map (λ f. meaning f) formats.new ≡ map (λ f. meaning f) formats.old }
+{
+    let changes = Changes::Refits {
+        splits: split,
+        cuts: cut,
+    };
+    rewrite(alloc, names, &changes, formats, store)
+}
+
+/// Writes a design after the edits that the arguments represent.
+pub(crate) fn edit<'a, S: Store>(
+    alloc: Global,
+    names: FileNames<'a>,
+    edits: &[String],
+    formats: &mut [Box<dyn Format>],
+    store: &mut S,
+) -> Made<'a>
+    requires names { AreFileNames names }
+    requires edits { AreEdits (map (λ word. string_bytes word) edits.now) }
+    ensures answers { RunsRequest stitch (option_map (λ o. rewriting o)
+        (complete_rewrite names.entry.input.now names.entry.output.now
+        (unwrap_or (parsed_edits (map (λ word. string_bytes word) edits.now)) [])
+        (format_of (map (λ f. meaning f) formats.old) names.entry.input.now)
+        (format_of (map (λ f. meaning f) formats.old) names.entry.output.now)))
+        (S.view store.old) (S.view store.new) result }
+    ensures same { map (λ f. meaning f) formats.new ≡ map (λ f. meaning f) formats.old }
+{
+    rewrite(alloc, names, &Changes::Edits(edits), formats, store)
+}
+
 /// Reads the design of a file, changes it, and encodes it as another file.
-pub(crate) fn rewrite<'a, S: Store>(
+fn rewrite<'a, S: Store>(
     alloc: Global,
     names: FileNames<'a>,
     changes: &Changes<'_>,
