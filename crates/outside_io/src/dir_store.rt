@@ -9,11 +9,12 @@ use crate::limits::MAX_NAME;
 use crate::new_file::{NewFile, begin};
 use crate::store::{Failed, ReadStop, Store};
 use crate::turns::read_some;
+use crate::used_files::UsedFiles;
 use crate::writing::write_all;
 use arrayvec::ArrayVec;
 use std::alloc::Global;
-use std::fs::File;
-use std::io::{Read, Seek, SeekFrom};
+use std::fs::{File, OpenFile};
+use std::io::{ErrorKind, Read, Seek, SeekFrom};
 use std::marker::Model;
 use std::rt::Files;
 use std::{fs, io};
@@ -28,13 +29,15 @@ struct OpenedFile<F: Drop> {
 
 /// Real files, which are hidden from contracts. Each error of the system is a fault, including a missing file
 /// and out of memory. A file that is read in order is opened once. A created file replaces the old one at the
-/// next call of the store, after the bytes that this call appends are on disk.
+/// next call of the store, after the bytes that this call appends are on disk. To create a regular file that was
+/// read or made under another name is a fault: nothing that a run has read is lost by a second name.
 #[derive(Drop)]
 pub struct DirStore<'a, R: Files> {
     alloc: Global,
     rt: &'a R,
     opened: Option<OpenedFile<R::File>>,
     begun: Option<NewFile<R::File>>,
+    used: UsedFiles,
     log: FaultLog,
 }
 
@@ -56,6 +59,7 @@ impl<'a, R: Files> DirStore<'a, R> {
             rt,
             opened: None,
             begun: None,
+            used: UsedFiles::new(alloc),
             log: FaultLog::new(),
         }
     }
@@ -85,6 +89,7 @@ impl<'a, R: Files> DirStore<'a, R> {
         ensures bound { IfOk result (λ count. count ≤ length buf.new) }
     {
         let mut reading = open_at(self.rt, name, at)?;
+        self.used.note(name, &reading.file.metadata()?)?;
         let count = read_on(&mut reading, buf)?;
         if count > 0 {
             self.opened = Some(reading);
@@ -119,7 +124,7 @@ impl<'a, R: Files> Store for DirStore<'a, R> {
         ensures exact { LogsFailedCall (write_call name.now) self.old self.new result }
     {
         self.opened = None;
-        match begin_next(self.alloc, self.rt, &mut self.begun, name) {
+        match begin_next(self.alloc, self.rt, &mut self.begun, &mut self.used, name) {
             Ok(()) => Ok(()),
             Err(_) => {
                 self.log.note(CallKind::Write, name);
@@ -145,18 +150,32 @@ impl<'a, R: Files> Store for DirStore<'a, R> {
     }
 }
 
-/// Completes a pending file, then begins the named one.
+/// Completes a pending file, then begins the named one, unless it was used under another name.
 fn begin_next<R: Files>(
     alloc: Global,
     rt: &R,
     begun: &mut Option<NewFile<R::File>>,
+    used: &mut UsedFiles,
     name: &str,
 ) -> io::Result<()>
     requires { length name.now ≤ MAX_NAME }
 {
     settle(rt, begun)?;
-    *begun = Some(begin(alloc, rt, name)?);
+    refuse_second_name(rt, used, name)?;
+    let new = begin(alloc, rt, name)?;
+    used.note(name, &new.metadata()?)?;
+    *begun = Some(new);
     Ok(())
+}
+
+/// Fails if the named file is there and was read or made under another name.
+fn refuse_second_name<R: Files>(rt: &R, used: &UsedFiles, name: &str) -> io::Result<()> {
+    match fs::metadata(rt, name) {
+        Ok(file) if used.has_under_another_name(name, &file) => Err(
+            ErrorKind::AlreadyExists.into(),
+        ),
+        Ok(_) | Err(_) => Ok(()),
+    }
 }
 
 /// Appends all the bytes to the named file, and completes a pending file.
@@ -215,6 +234,6 @@ fn append_to<R: Files>(rt: &R, name: &str, bytes: &[u8]) -> io::Result<()> {
     if write_all(&mut file, bytes) {
         Ok(())
     } else {
-        Err(io::ErrorKind::WriteZero.into())
+        Err(ErrorKind::WriteZero.into())
     }
 }

@@ -17,6 +17,7 @@ mod sink;
 mod std_sink;
 mod store;
 mod turns;
+mod used_files;
 mod whole_files;
 mod writing;
 

@@ -123,6 +123,11 @@ impl<F: io::Read + io::Write + io::Seek + OpenFile + Drop> NewFile<F> {
         self.name.as_slice() == name.as_bytes()
     }
 
+    /// Returns the metadata of the new file.
+    pub(crate) fn metadata(&self) -> io::Result<Metadata> {
+        self.file.metadata()
+    }
+
     /// Writes these bytes, then replaces the old file. An error leaves the old file unchanged.
     pub(crate) fn take_place<R: Files>(mut self, rt: &R, bytes: &[u8]) -> io::Result<()> {
         match self.write_and_move(rt, bytes) {
