@@ -1,287 +1,346 @@
 #!/usr/bin/env python3
-"""Writes the drawing of an SVG file, as an editor such as Inkscape saves it. Not proved, unlike the programs.
+"""Writes the drawing of an SVG file, as Inkscape and other editors save it. Not proved, unlike the programs.
 
-usage: from_svg.py IN.svg OUT.rw [STEP]
+usage: from_svg.py IN.svg OUT.rw [STEP] [--within=MM] [--apart=MM] [--width=N] [--centre] [--skip]
 
-Takes lines, polylines, polygons and paths, in groups with transforms. Curves become points at most half a tenth of a
-millimetre beside them. Each stroke colour is a block, in the order of their first use. An element that it can't read is
-named and refused, and nothing is written. STEP is the longest stitch in tenths of a millimetre, 25 without it.
+Writes a block for each stroke colour, in the order in which they first appear, with the nearest thread of the PEC palette.
+STEP is the longest stitch in tenths of a millimetre, 25 without it. OUT.rw may be - for the standard output.
+  --within=MM  how far a curve may be from its points and the lines between them: 0.1 without it, 0.08 to 10
+  --apart=MM   how far apart the points of a curve may be: 0.5 without it, 0.3 to 10
+  --width=N    makes the drawing N tenths of a millimetre wide; its left and upper edges stay
+  --centre     brings the middle of the drawing to 0 0
+  --skip       leaves out what can't be sewn, and names it
+Threads, size, middle and what is left out are reported on the standard error.
+Status 0: written, 1: refused, nothing is written, 2: wrong arguments, or svgelements is missing.
 """
 import math
+import os
 import re
 import sys
 import xml.etree.ElementTree as ElementTree
+from bisect import bisect_left
+from collections import Counter
+from itertools import accumulate
 
-# Lengths of a unit in tenths of a millimetre.
-UNITS = {"mm": 10.0, "cm": 100.0, "in": 254.0, "pt": 254.0 / 72, "pc": 254.0 / 6, "px": 254.0 / 96, "": 254.0 / 96}
-# Elements that draw nothing by themselves.
-PASSED = {"defs", "metadata", "title", "desc", "namedview", "style"}
-# The greatest distance of a curve from its points, in tenths of a millimetre.
-FLAT = 0.5
-NUMBER = re.compile(r"[-+]?(?:\d+\.?\d*|\.\d+)(?:[eE][-+]?\d+)?")
-IDENTITY = (1.0, 0.0, 0.0, 1.0, 0.0, 0.0)
+sys.dont_write_bytecode = True
+try:
+    from svg_strokes import Reader, Refused, TooMuch, kind_of, plain
+except ImportError as why:
+    Reader, MISSING = None, why.name
 
-
-class Refused(Exception):
-    """What can't be read, by name."""
-
-
-def numbers(text):
-    return [float(word) for word in NUMBER.findall(text)]
-
-
-def product(m, n):
-    """The transform that first takes n, then m."""
-    a, b, c, d, e, f = m
-    p, q, r, s, t, u = n
-    return (a * p + c * q, b * p + d * q, a * r + c * s, b * r + d * s, a * t + c * u + e, b * t + d * u + f)
-
-
-def moved(m, p):
-    return (m[0] * p[0] + m[2] * p[1] + m[4], m[1] * p[0] + m[3] * p[1] + m[5])
-
-
-def transform_of(text):
-    m = IDENTITY
-    if re.sub(r"\w+\s*\([^)]*\)[\s,]*", "", text).strip():
-        raise Refused(f"transform {text!r}")
-    for name, inside in re.findall(r"(\w+)\s*\(([^)]*)\)", text):
-        v = numbers(inside)
-        if name == "matrix" and len(v) == 6:
-            n = tuple(v)
-        elif name == "translate" and len(v) in (1, 2):
-            n = (1, 0, 0, 1, v[0], v[1] if len(v) == 2 else 0)
-        elif name == "scale" and len(v) in (1, 2):
-            n = (v[0], 0, 0, v[-1], 0, 0)
-        elif name == "rotate" and len(v) in (1, 3):
-            cos, sin = math.cos(math.radians(v[0])), math.sin(math.radians(v[0]))
-            x, y = v[1:] if len(v) == 3 else (0, 0)
-            n = (cos, sin, -sin, cos, x - cos * x + sin * y, y - sin * x - cos * y)
-        elif name == "skewX" and len(v) == 1:
-            n = (1, 0, math.tan(math.radians(v[0])), 1, 0, 0)
-        elif name == "skewY" and len(v) == 1:
-            n = (1, math.tan(math.radians(v[0])), 0, 1, 0, 0)
-        else:
-            raise Refused(f"transform {name}({inside})")
-        m = product(m, n)
-    return m
+# The python3 of Debian, which sees Debian's packages.
+DEBIAN = "/usr/bin/python3"
+# The least and the greatest value of each option.
+RANGES = {"--step": (1, 2047), "--within": (0.08, 10), "--apart": (0.3, 10), "--width": (1, 60000)}
+# The greatest distance of a curve from its samples, in tenths of a millimetre.
+SAMPLED = 0.04
+LINES, POINTS, STEPS, REACH, BLOCKS = 1024, 65536, 200000, 30000, 255
+TOO_MANY = f"more than {POINTS} points: take --apart=1, or divide the drawing"
+THREADS = """0e1f7c Prussian Blue,0a55a3 Blue,008777 Teal Green,4b6baf Cornflower Blue,ed171f Red,d15c00 Reddish Brown,
+913697 Magenta,e49acb Light Lilac,915fac Lilac,9ed67d Mint Green,e8a900 Deep Gold,feba35 Orange,ffff00 Yellow,70bc1f Lime Green,
+ba9800 Brass,a8a8a8 Silver,7d6f00 Russet Brown,ffffb3 Cream Brown,4f5556 Pewter,000000 Black,0b3d91 Ultramarine,
+770176 Royal Purple,293133 Dark Gray,2a1301 Dark Brown,f64a8a Deep Rose,b27624 Light Brown,fcbbc5 Salmon Pink,fe370f Vermilion,
+f0f0f0 White,6a1c8a Violet,a8ddc4 Seacrest,2584bb Sky Blue,feb343 Pumpkin,fff36b Cream Yellow,d0a660 Khaki,d15400 Clay Brown,
+66ba49 Leaf Green,134a46 Peacock Blue,878787 Gray,d8ccc6 Warm Gray,435607 Dark Olive,fdd9de Flesh Pink,f993bc Pink,
+003822 Deep Green,b2afd4 Lavender,686ab0 Wisteria Violet,efe3b9 Beige,f73866 Carmine,b54b64 Amber Red,132b1a Olive Green,
+c70156 Dark Fuchsia,fe9e32 Tangerine,a8deeb Light Blue,00673e Emerald Green,4e2990 Purple,2f7e20 Moss Green,ffcccc Flesh Pink,
+ffd911 Harvest Gold,095ba6 Electric Blue,f0f970 Lemon Yellow,e3f35b Fresh Green,ff9900 Orange,fff08d Cream Yellow,
+ffc8c8 Applique""".replace("\n", "").split(",")
 
 
-def curve(points, flat):
-    """The points of a cubic curve after its first, so that the curve is within `flat` of the chords."""
-    (x0, y0), (x1, y1), (x2, y2), (x3, y3) = points
-    bend = max(math.hypot(x0 - 2 * x1 + x2, y0 - 2 * y1 + y2), math.hypot(x1 - 2 * x2 + x3, y1 - 2 * y2 + y3))
-    count = max(1, math.ceil(math.sqrt(0.75 * bend / flat)))
+def title_of(root):
+    """The title of a document as a label of at most 16 bytes without spaces."""
+    title = next((child for child in root if kind_of(child) == "title"), None)
+    return plain("".join(title.itertext()) if title is not None else "").replace(" ", "-")[:16].rstrip("-")
+
+
+def cut_at(curve, t):
+    """The two parts of a cubic curve."""
+    a, b, c, d = curve
+    ab, bc, cd = a + t * (b - a), b + t * (c - b), c + t * (d - c)
+    abc, bcd = ab + t * (bc - ab), bc + t * (cd - bc)
+    middle = abc + t * (bcd - abc)
+    return (a, ab, abc, middle), (middle, bcd, cd, d)
+
+
+def turns(p, q, r, s):
+    """Where a cubic polynomial, given by its four Bezier numbers, turns between 0 and 1."""
+    a, b, c = s - 3 * r + 3 * q - p, 2 * (r - 2 * q + p), q - p
+    root = math.sqrt(max(b * b - 4 * a * c, 0))
+    under = -(b + math.copysign(root, b)) / 2
+    return [t for t in ((under / a) if a else 0, (c / under) if under else 0) if 1e-6 < t < 1 - 1e-6]
+
+
+def at_extremes(pieces, wanted=lambda point: True):
+    """The pieces of a line with its curves cut where x or y turns, at the points that are wanted."""
     made = []
-    for k in range(1, count + 1):
-        t = k / count
-        u = 1 - t
-        w = (u * u * u, 3 * u * u * t, 3 * u * t * t, t * t * t)
-        made.append(tuple(sum(w[i] * points[i][axis] for i in range(4)) for axis in (0, 1)))
-    made[-1] = (x3, y3)
+    for piece in pieces:
+        done, curve = 0.0, piece if len(piece) == 4 else (0, 0, 0, 0)
+        for t in sorted(set(turns(*(p.real for p in curve)) + turns(*(p.imag for p in curve)))):
+            first, rest = cut_at(piece, (t - done) / (1 - done))
+            if wanted(rest[0]):
+                made, piece, done = made + [first], rest, t
+        made.append(piece)
     return made
 
 
-def arc(start, rx, ry, turn, large, sweep, end, flat):
-    """The points of an elliptical arc after its first (SVG 1.1, appendix F.6)."""
-    rx, ry = abs(rx), abs(ry)
-    if rx == 0 or ry == 0 or start == end:
-        return [end]
-    cos, sin = math.cos(math.radians(turn)), math.sin(math.radians(turn))
-    dx, dy = (start[0] - end[0]) / 2, (start[1] - end[1]) / 2
-    x, y = cos * dx + sin * dy, cos * dy - sin * dx
-    over = (x / rx) ** 2 + (y / ry) ** 2
-    if over > 1:
-        rx, ry = rx * math.sqrt(over), ry * math.sqrt(over)
-    root = max(0.0, (rx * ry) ** 2 / ((rx * y) ** 2 + (ry * x) ** 2) - 1)
-    by = math.sqrt(root) * (-1 if bool(large) == bool(sweep) else 1)
-    cx, cy = by * rx * y / ry, -by * ry * x / rx
-    first = math.atan2((y - cy) / ry, (x - cx) / rx)
-    turns = math.atan2((-y - cy) / ry, (-x - cx) / rx) - first
-    if sweep and turns < 0:
-        turns += 2 * math.pi
-    if not sweep and turns > 0:
-        turns -= 2 * math.pi
-    by = 2 * math.acos(max(0.0, 1 - flat / max(rx, ry, flat)))
-    count = max(1, math.ceil(abs(turns) / by))
-    made = []
-    for k in range(1, count + 1):
-        at = first + turns * k / count
-        px, py = rx * math.cos(at) + cx, ry * math.sin(at) + cy
-        made.append((cos * px - sin * py + (start[0] + end[0]) / 2, sin * px + cos * py + (start[1] + end[1]) / 2))
-    made[-1] = end
-    return made
+def rounded(point):
+    """The nearest whole numbers. What differs by less than a millionth rounds alike, so that clones meet."""
+    return math.floor(round(point.real, 6) + 0.5), math.floor(round(point.imag, 6) + 0.5)
 
 
-def path_lines(text, flat):
-    """The lines of a path, each a list of points."""
-    words = re.findall(r"[A-Za-z]|[-+]?(?:\d+\.?\d*|\.\d+)(?:[eE][-+]?\d+)?", text)
-    if re.sub(r"[\s,]", "", text) != "".join(words):
-        raise Refused(f"path {text[:40]!r}")
-    lines, at, begin, command, control, k = [], (0.0, 0.0), (0.0, 0.0), "", None, 0
+def samples(curve):
+    """Points of a cubic curve, half a tenth of a millimetre apart at most; the curve is within SAMPLED of their chords."""
+    a, b, c, d = curve
+    speed, bend = 6 * max(abs(b - a), abs(c - b), abs(d - c)), 6 * max(abs(a - 2 * b + c), abs(b - 2 * c + d))
+    count = max(1, math.ceil(speed), math.ceil(math.sqrt(bend / 8 / SAMPLED)))
+    parts = ((k / count, 1 - k / count) for k in range(1, count))
+    return [a, *(u * u * u * a + 3 * u * u * t * b + 3 * u * t * t * c + t * t * t * d for t, u in parts), d]
 
-    def take(count):
-        nonlocal k
-        some = words[k:k + count]
-        if len(some) < count or any(word.isalpha() for word in some):
-            raise Refused(f"path command {command} with too few numbers")
-        k += count
-        return [float(word) for word in some]
 
-    def flags(radii):
-        """The numbers of an arc, whose two flags may be written without a gap."""
-        nonlocal k
-        for _ in range(2):
-            if k < len(words) and len(words[k]) > 1 and words[k][0] in "01":
-                words[k:k + 1] = [words[k][0], words[k][1:]]
-            radii += take(1)
-        return radii + take(2)
+def beside(point, a, b):
+    """The distance of a point from the segment of two others."""
+    along, to = b - a, point - a
+    part = (to.real * along.real + to.imag * along.imag) / abs(along) ** 2 if a != b else 0
+    return abs(to - min(max(part, 0), 1) * along)
 
-    while k < len(words):
-        if words[k].isalpha():
-            command, k = words[k], k + 1
-        elif command in "zZ":
-            raise Refused("path with numbers after its end")
-        elif command in "mM":
-            command = "l" if command == "m" else "L"
-        kind, base = command.upper(), at if command.islower() else (0.0, 0.0)
-        if kind != "M" and not lines:
-            raise Refused("path that doesn't begin with M")
 
-        def pair(values):
-            return (base[0] + values[0], base[1] + values[1])
+def curve_points(curve, within, apart):
+    """The points of a curve after its first: as few as fit, spaced evenly, and closer at a sharp bend."""
+    passed = samples(curve)
+    way = [0.0, *accumulate(abs(b - a) for a, b in zip(passed, passed[1:]))]
 
-        if kind == "M":
-            at = begin = pair(take(2))
-            lines.append([at])
-        elif kind == "Z":
-            lines[-1].append(begin)
-            lines.append([begin])
-            at = begin
-        elif kind in "LHV":
-            v = take(2 if kind == "L" else 1)
-            at = pair(v) if kind == "L" else (base[0] + v[0], at[1]) if kind == "H" else (at[0], base[1] + v[0])
-            lines[-1].append(at)
-        elif kind in "CSQT":
-            v = take({"C": 6, "S": 4, "Q": 4, "T": 2}[kind])
-            end = pair(v[-2:])
-            mirror = at
-            if control and (control[0], kind) in (("C", "S"), ("S", "S"), ("Q", "T"), ("T", "T")):
-                mirror = (2 * at[0] - control[1][0], 2 * at[1] - control[1][1])
-            if kind in "CS":
-                one = pair(v) if kind == "C" else mirror
-                two = pair(v[-4:])
-                held = two
+    def fits(first, last):
+        a, b = complex(*rounded(passed[first])), complex(*rounded(passed[last]))
+        return last - first < 2 or abs(b - a) <= apart and all(
+            beside(one, a, b) <= within - SAMPLED for one in passed[first + 1:last])
+
+    def cut(first, last):
+        middle = (first + last) // 2
+        return [last] if fits(first, last) else cut(first, middle) + cut(middle, last)
+
+    def pick(k):
+        return bisect_left(way, way[-1] * k / count) if k < count else len(passed) - 1
+
+    count = least = max(1, math.ceil(way[-1] / apart))
+    while count < least + least // 4 + 2 and not all(fits(pick(k), pick(k + 1)) for k in range(count)):
+        count += 1 + count // 1000
+    return [rounded(passed[at]) for k in range(count) for at in cut(pick(k), pick(k + 1))]
+
+
+def points_of(pieces, within, apart):
+    """The whole points of a line, no two neighbours alike."""
+    points = [rounded(pieces[0][0])]
+    for piece in pieces:
+        for point in curve_points(piece, within, apart) if len(piece) == 4 else [rounded(piece[1])]:
+            if point != points[-1]:
+                points.append(point)
+        if len(points) > POINTS:
+            raise Refused(TOO_MANY)
+    return points
+
+
+def scaled(blocks, width):
+    """The lines, cut where they reach the edges of the drawing, and as wide as requested. Left and upper edge stay."""
+    pieces = [piece for lines in blocks.values() for _, line in lines for piece in at_extremes(line)]
+    xs, ys = zip(*((end.real, end.imag) for piece in pieces for end in (piece[0], piece[-1])))
+    (left, top), across, down = (min(xs), min(ys)), max(xs) - min(xs), max(ys) - min(ys)
+    if width and across < 0.5:
+        raise Refused("the drawing has no width, so --width can't scale it")
+    by, corner = (width / across, complex(left, top)) if width else (1, 0)
+    if max(across, down) * by > 2 * REACH + 1:
+        raise Refused(f"the drawing is {max(across, down) * by:.0f} tenths of a millimetre large, more than {2 * REACH}: "
+                      "scale it in the editor, or take --width=N")
+    stay, near = complex(*rounded(corner)), 1e-6 * max(across, down)
+
+    def is_edge(point):
+        x, y = point.real - left, point.imag - top
+        return min(abs(x), abs(across - x), abs(y), abs(down - y)) <= near
+
+    return {colour: [(label, [tuple((point - corner) * by + stay for point in piece) for piece in at_extremes(line, is_edge)])
+                     for label, line in lines] for colour, lines in blocks.items()}
+
+
+def centred(blocks, centre):
+    """The lines of whole points, moved where requested; and the report on their size and middle."""
+    xs, ys = zip(*(point for lines in blocks.values() for _, points in lines for point in points))
+    x, y = (min(xs) + max(xs)) // 2, (min(ys) + max(ys)) // 2
+    size = f"size {max(xs) - min(xs)} {max(ys) - min(ys)} middle "
+    if not centre:
+        return blocks, size + f"{x} {y}"
+    return {colour: [(label, [(a - x, b - y) for a, b in points]) for label, points in lines]
+            for colour, lines in blocks.items()}, size + "0 0"
+
+
+def check_limits(blocks, step):
+    """Refuses what a drawing can't hold."""
+    lines = [points for block in blocks.values() for _, points in block]
+    cuts = 0
+    for block in blocks.values():
+        listed = Counter(point for _, points in block for point in points)
+        cuts += sum(listed[point] > 1 for _, points in block for point in points[1:-1])
+    steps = sum(-(-max(abs(a - c), abs(b - d)) // step) for points in lines for (a, b), (c, d) in zip(points, points[1:]))
+    reach = max(abs(number) for points in lines for point in points for number in point)
+    for count, limit, what in (
+            (len(blocks), BLOCKS, "colours: give lines the same one"),
+            (len(lines), LINES, "lines: join their ends (Node > Join), or divide the drawing"),
+            (len(lines) + cuts, LINES, "lines, counted from meeting to meeting: divide the drawing"),
+            (sum(map(len, lines)) + cuts, POINTS, "points: take --apart=1, or divide the drawing"),
+            (steps, STEPS, "steps: take a longer STEP, or divide the drawing"),
+            (reach, REACH, "tenths of a millimetre from 0 0: take --centre, or --width=N")):
+        if count > limit:
+            raise Refused(f"{count} {what}; a drawing has at most {limit}")
+
+
+def lab(colour):
+    """Lightness, green to red and blue to yellow of a colour (CIE 1976, daylight D65)."""
+    r, g, b = (part / 3294.6 if part <= 10 else ((part / 255 + 0.055) / 1.055) ** 2.4 for part in colour)
+    x, y, z = ((part ** (1 / 3) if part > 216 / 24389 else part * 841 / 108 + 4 / 29) for part in (
+        0.4339 * r + 0.3762 * g + 0.1899 * b, 0.2126 * r + 0.7152 * g + 0.0722 * b, 0.0178 * r + 0.1095 * g + 0.8727 * b))
+    return 116 * y - 16, 500 * (x - y), 200 * (y - z)
+
+
+def thread_of(colour):
+    """The number and the name of the nearest thread, by the distance CIE94."""
+    def distance(thread):
+        (l, a, b), (m, c, d) = lab(colour), lab(bytes.fromhex(thread[:6]))
+        chroma = math.hypot(a, b)
+        more = chroma - math.hypot(c, d)
+        hue = max((a - c) ** 2 + (b - d) ** 2 - more * more, 0)
+        return (l - m) ** 2 + (more / (1 + 0.045 * chroma)) ** 2 + hue / (1 + 0.015 * chroma) ** 2
+    best = min(range(64), key=lambda k: distance(THREADS[k]))
+    return best + 1, THREADS[best][7:]
+
+
+def whole_lines(reader, width, within, apart):
+    """The lines of whole points by colour. Those of a single point are counted."""
+    drawn = scaled(reader.blocks, width) if any(reader.blocks.values()) else {}
+    curves = [piece for lines in drawn.values() for _, line in lines for piece in line if len(piece) == 4]
+    if sum(abs(curve[3] - curve[0]) for curve in curves) > POINTS * 10 * apart:
+        raise Refused(TOO_MANY)
+    blocks, total = {}, 0
+    for colour, lines in drawn.items():
+        for label, line in lines:
+            points = points_of(line, 10 * within, 10 * apart)
+            total += len(points)
+            if total > POINTS:
+                raise Refused(TOO_MANY)
+            if len(points) > 1:
+                blocks.setdefault(colour, []).append((label, points))
             else:
-                held = pair(v) if kind == "Q" else mirror
-                one = tuple(at[i] + 2 / 3 * (held[i] - at[i]) for i in (0, 1))
-                two = tuple(end[i] + 2 / 3 * (held[i] - end[i]) for i in (0, 1))
-            lines[-1] += curve([at, one, two, end], flat)
-            at, control = end, (kind, held)
-            continue
-        elif kind == "A":
-            v = flags(take(3))
-            end = pair(v[5:])
-            lines[-1] += arc(at, *v[:5], end, flat)
-            at = end
-        else:
-            raise Refused(f"path command {command}")
-        control = None
-    return [line for line in lines if len(line) > 1]
+                reader.left_out["of a single point"] += 1
+    return blocks
 
 
-def pairs(element):
-    v = numbers(element.get("points", ""))
-    if len(v) % 2 or len(v) < 4:
-        raise Refused("points that are no pairs")
-    return list(zip(v[::2], v[1::2]))
-
-
-def drawn_lines(element, kind, flat):
-    if kind == "line":
-        return [[(float(element.get(x, 0)), float(element.get(y, 0))) for x, y in (("x1", "y1"), ("x2", "y2"))]]
-    if kind == "polyline":
-        return [pairs(element)]
-    if kind == "polygon":
-        return [pairs(element) + pairs(element)[:1]]
-    return path_lines(element.get("d", ""), flat)
-
-
-def style_of(element, key, inherited):
-    """A property of an element: in its style, as an attribute, or from its group."""
-    for part in element.get("style", "").split(";"):
-        name, _, value = part.partition(":")
-        if name.strip() == key:
-            return value.strip()
-    return element.get(key, inherited)
-
-
-def gather(element, m, stroke, blocks):
-    kind = element.tag.rpartition("}")[2] if isinstance(element.tag, str) else "comment"
-    if kind in PASSED or kind == "comment" or style_of(element, "display", "") == "none":
-        return
-    name = f"{kind} {element.get('id', 'without id')}"
-    try:
-        m = product(m, transform_of(element.get("transform", "")))
-        stroke = style_of(element, "stroke", stroke)
-        if kind in ("svg", "g", "a"):
-            for child in element:
-                gather(child, m, stroke, blocks)
-            return
-        if kind not in ("line", "polyline", "polygon", "path"):
-            raise Refused("an element that this doesn't read: turn it into a path in the editor")
-        if stroke in (None, "", "none"):
-            raise Refused("no stroke: it isn't known what is to be sewn")
-        scale = math.sqrt(abs(m[0] * m[3] - m[1] * m[2])) or 1.0
-        for line in drawn_lines(element, kind, FLAT / scale):
-            blocks.setdefault(stroke.lower(), []).append([moved(m, p) for p in line])
-    except Refused as why:
-        if str(why).startswith("["):
-            raise
-        raise Refused(f"[{name}] {why}") from None
-
-
-def scale_of(root):
-    width = re.fullmatch(r"\s*([\d.eE+-]+)\s*([a-z]*)\s*", root.get("width", ""))
-    box = numbers(root.get("viewBox", ""))
-    if width and width.group(2) not in UNITS:
-        raise Refused(f"[svg] width in {width.group(2)}")
-    if not box:
-        return product((UNITS["px"], 0, 0, UNITS["px"], 0, 0), IDENTITY)
-    by = float(width.group(1)) * UNITS[width.group(2)] / box[2] if width else UNITS["px"]
-    return (by, 0, 0, by, -by * box[0], -by * box[1])
-
-
-def drawing(root, step):
-    blocks = {}
-    gather(root, scale_of(root), None, blocks)
-    if not blocks:
-        raise Refused("[svg] nothing is drawn")
-    text = ["redwork 2", f"step {step}"]
-    for thread, (colour, lines) in enumerate(blocks.items(), 1):
-        text += [f"# {colour}", f"color {thread}"]
-        for line in lines:
-            points = []
-            for x, y in line:
-                p = (math.floor(x + 0.5), math.floor(y + 0.5))
-                if points[-1:] != [p]:
-                    points.append(p)
-            if len(points) < 2:
-                raise Refused(f"[{colour}] a line shorter than a tenth of a millimetre, at {points[0][0]} {points[0][1]}")
+def text_of(blocks, title, step):
+    """The text of a drawing, with a comment before each block, and before the lines of each label."""
+    text = ["redwork 2"] + [f"name {title}"] * bool(title) + [f"step {step}"]
+    for colour, lines in blocks.items():
+        text += [f"# {thread_line(colour)}", f"color {thread_of(colour)[0]}"]
+        for k, (label, points) in enumerate(lines):
+            if label and (k == 0 or label != lines[k - 1][0]):
+                text.append(f"# {label}")
             text.append("line " + " ".join(f"{x} {y}" for x, y in points))
     return "\n".join(text) + "\n"
 
 
-def main(words):
-    if len(words) not in (2, 3) or (len(words) == 3 and not words[2].isdigit()):
-        sys.exit(__doc__.split("\n\n")[1])
+def thread_line(colour):
+    """A colour and its thread, as they are reported."""
+    number, name = thread_of(colour)
+    return f"#{bytes(colour).hex()} thread {number} {name}"
+
+
+def drawing(root, step=25, within=0.1, apart=0.5, width=None, centre=False, skip=False):
+    """The text of a document's drawing, and the report. Lengths are mm, but for step and width: tenths."""
+    if kind_of(root) != "svg":
+        raise Refused("not an SVG file")
+    reader = Reader(root)
+    blocks = {} if reader.faults and not skip else whole_lines(reader, width, within, apart)
+    left_out = ", ".join(f"{count} {what}" for what, count in reader.left_out.items() if count)
+    if not blocks:
+        raise Refused("\n".join(reader.faults) or "nothing is drawn with a stroke" + f"; left out: {left_out}" * bool(left_out))
+    blocks, size = centred(blocks, centre)
+    check_limits(blocks, step)
+    report = [thread_line(colour) for colour in blocks] + reader.notes * (width is None)
+    report += [f"left out: {what}" for what in (*reader.faults, left_out) if what] + [size]
+    return text_of(blocks, title_of(root), step), report
+
+
+def options_of(words):
+    """The names of both files and the options, or None."""
+    files, options = [], {}
+    for word in words:
+        name, _, value = word.partition("=")
+        if word in ("--centre", "--skip"):
+            options[word[2:]] = True
+        elif name in RANGES and re.fullmatch(r"\d+" if name == "--width" else r"\d+(\.\d+)?", value):
+            options[name[2:]] = int(value) if name == "--width" else float(value)
+        elif word.startswith("--"):
+            return None
+        else:
+            files.append(word)
+    if len(files) == 3 and re.fullmatch("[0-9]{1,9}", files[2]):
+        options["step"] = int(files.pop())
+    ranged = [(RANGES[name], options[name[2:]]) for name in RANGES if name[2:] in options]
+    return (files, options) if len(files) == 2 and all(low <= at <= high for (low, high), at in ranged) else None
+
+
+def read(name):
+    """The root of a document."""
     try:
-        text = drawing(ElementTree.parse(words[0]).getroot(), int(words[2]) if len(words) == 3 else 25)
-    except (Refused, OSError, ElementTree.ParseError, ValueError) as why:
-        sys.exit(f"from_svg: {words[0]}: {why}")
-    with open(words[1], "w", encoding="ascii") as out:
-        out.write(text)
+        return ElementTree.parse(name).getroot()
+    except OSError as why:
+        raise Refused(f"cannot read it: {why.strerror or why}") from None
+    except (ElementTree.ParseError, ValueError, LookupError) as why:
+        raise Refused(f"not XML: {why}") from None
+
+
+def write(name, text):
+    """Writes a drawing to a file, or to the standard output if the name is -."""
+    try:
+        if name == "-":
+            sys.stdout.write(text)
+            sys.stdout.flush()
+        else:
+            with open(name, "w", encoding="ascii") as out:
+                out.write(text)
+    except OSError as why:
+        raise Refused(f"cannot write {name}: {why.strerror or why}") from None
+
+
+def run(words):
+    """Runs the script, and returns its status and what it reports."""
+    found = options_of(words)
+    if not found:
+        return 2, [__doc__.split("\n\n", 1)[1].rstrip()]
+    (name, out), options = found
+    try:
+        if out != "-" and os.path.exists(out) and os.path.exists(name) and os.path.samefile(name, out):
+            raise Refused("the drawing would replace it: name another file")
+        text, report = drawing(read(name), **options)
+        write(out, text)
+        return 0, report
+    except (Refused, TooMuch) as why:
+        return 1, [f"from_svg.py: {plain(name)}: {line}" for line in str(why).split("\n")]
+    except (RecursionError, MemoryError):
+        return 1, [f"from_svg.py: {plain(name)}: it is too large, or has too many groups in groups: divide or ungroup it"]
+
+
+def main(words):
+    """Runs the script, by Debian's python3 where this one lacks the library, and reports."""
+    if Reader is None:
+        if sys.executable != DEBIAN and os.access(DEBIAN, os.X_OK):
+            os.execv(DEBIAN, [DEBIAN, __file__, *words])
+        print("from_svg.py: it needs svgelements: sudo apt install python3-svgelements" if MISSING == "svgelements" else
+              f"from_svg.py: it needs the file {MISSING}.py beside it", file=sys.stderr)
+        return 2
+    try:
+        status, report = run(words)
+    except Exception as why:
+        status, report = 1, [f"from_svg.py: {words[0]}: it can't be read: {type(why).__name__}: {plain(str(why))}"]
+    print("\n".join(report), file=sys.stderr)
+    return status
 
 
 if __name__ == "__main__":
-    main(sys.argv[1:])
+    sys.exit(main(sys.argv[1:]))

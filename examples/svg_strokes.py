@@ -1,0 +1,312 @@
+"""The visible strokes of an SVG file, for from_svg.py: their colours, and their lines in tenths of a millimetre.
+
+Paths, arcs, transforms and the names of colours are read by svgelements. It passes over what it can't read, so the syntax
+is checked before. Its own walk over a document draws symbols that nothing refers to and passes over their viewBox, so the
+elements are walked over here.
+"""
+import math
+import re
+import unicodedata
+from collections import Counter
+from typing import NamedTuple
+
+from svg_style import INHERITED, NUMBER, Refused, is_clear, kind_of, number, painted, style_of, style_rules
+from svgelements import Arc, Close, CubicBezier, Ellipse, Matrix, Move, Path, QuadraticBezier, Rect
+
+XLINK = "{http://www.w3.org/1999/xlink}"
+LABEL = "{http://www.inkscape.org/namespaces/inkscape}label"
+# Lengths of a unit in px, of which 96 are an inch; and of a px in tenths of a millimetre.
+UNITS = {"": 1, "px": 1, "mm": 96 / 25.4, "cm": 96 / 2.54, "in": 96, "pt": 4 / 3, "pc": 16, "q": 96 / 101.6}
+PX = 254 / 96
+# Elements that draw nothing where they stand.
+PASSED = set("defs symbol clipPath mask marker pattern linearGradient radialGradient meshgradient filter metadata title desc"
+             " style script font animate animateTransform animateMotion set view cursor solidcolor color-profile".split())
+GROUPS, TEXTS = {"svg", "g", "a", "switch", "symbol"}, {"text", "flowRoot", "foreignObject"}
+SHAPES = {"path", "rect", "circle", "ellipse", "line", "polyline", "polygon"}
+# The lengths of shapes: a percentage is of the width (x), of the height (y), or of the mean of both (r).
+LENGTHS = {kind: dict(pair.split(":") for pair in pairs.split()) for kind, pairs in {
+    "rect": "x:x y:y width:x height:y rx:x ry:y", "circle": "cx:x cy:y r:r", "ellipse": "cx:x cy:y rx:x ry:y",
+    "line": "x1:x y1:y x2:x y2:y"}.items()}
+TRANSFORMS = {"matrix": (6,), "translate": (1, 2), "scale": (1, 2), "rotate": (1, 3), "skewX": (1,), "skewY": (1,)}
+# The numbers (n) and flags (f) after each letter of a path.
+COMMANDS = {"m": "nn", "z": "", "l": "nn", "h": "n", "v": "n", "c": "nnnnnn", "s": "nnnn", "q": "nnnn", "t": "nn",
+            "a": "nnnffnn"}
+# The greatest number of elements, each counted as often as it is cloned.
+ELEMENTS = 20000
+
+
+class TooMuch(Exception):
+    """What no drawing could hold."""
+
+
+class Place(NamedTuple):
+    """What an element takes from those around it. Lengths are px, but for the size, which is in the element's own units."""
+    matrix: object
+    style: dict
+    size: tuple = (None, None)
+    left_out: str = ""
+    uses: tuple = ()
+    labels: tuple = ()
+
+
+def plain(text):
+    """A text as printable ASCII with single spaces."""
+    text = unicodedata.normalize("NFKD", text).encode("ascii", "ignore").decode()
+    return " ".join("".join(c if " " <= c <= "~" else " " for c in text).split())
+
+
+def length(element, name, default, whole):
+    """A length of an element in its own units; a percentage is of `whole`, which is None where it isn't known."""
+    text = element.get(name, default)
+    found = re.fullmatch(rf"\s*({NUMBER})\s*([a-zA-Z]*|%)\s*", text)
+    if not found or found[2].lower() not in UNITS and found[2] != "%":
+        raise Refused(f"{name} {text!r} isn't a length in mm, cm, in, pt, px or %")
+    if found[2] == "%" and whole is None:
+        raise Refused(f"{name} {text!r} is a part of a size that isn't given: set width and height of the document")
+    found = float(found[1]) * (whole / 100 if found[2] == "%" else UNITS[found[2].lower()])
+    if not abs(found) < 1e9:
+        raise Refused("its numbers are too large")
+    return found
+
+
+def transform_of(text):
+    """The matrix of a transform, whose first call is the outermost."""
+    matrix = Matrix()
+    for call in re.split(r"(?<=\))[\s,]*", text.strip()):
+        found = re.fullmatch(r"([a-zA-Z]+)\s*\(([^()%]*)\)", call)
+        numbers = [number(word) for word in re.split(r"\s*,\s*|\s+", found[2].strip())] if found else []
+        if call and (not found or len(numbers) not in TRANSFORMS.get(found[1], ()) or None in numbers):
+            raise Refused(f"transform {call!r} can't be read")
+        matrix = Matrix(f"{found[1]}({','.join(map(repr, numbers))})") * matrix if call else matrix
+    return matrix
+
+
+def view_box(element):
+    """The numbers of a viewBox, or None."""
+    words = element.get("viewBox", "").replace(",", " ").split()
+    if not words:
+        return None
+    box = [number(word) for word in words if "%" not in word]
+    if len(box) != 4 or None in box or min(box[2:]) <= 0:
+        raise Refused(f"viewBox {element.get('viewBox')!r} isn't four numbers with a width and a height")
+    return box
+
+
+def fitted(element, x, y, width, height, box):
+    """The matrix that brings a viewBox into a rectangle."""
+    aspect = re.fullmatch(r"\s*(none|x(M..)Y(M..))(?:\s+(meet|slice))?\s*", element.get("preserveAspectRatio", ""))
+    form, across, down, by = aspect.groups() if aspect else ("", "Mid", "Mid", "meet")
+    right, low = width / box[2], height / box[3]
+    if form != "none":
+        right = low = max(right, low) if by == "slice" else min(right, low)
+    part = {"Min": 0, "Max": 1}
+    return Matrix(right, 0, 0, low, x - box[0] * right + part.get(across, 0.5) * (width - box[2] * right),
+                  y - box[1] * low + part.get(down, 0.5) * (height - box[3] * low))
+
+
+def path_of(text):
+    """The library's path of a text of letters with their numbers. The library stops at a fault without a word."""
+    at, kind, parts, words = 0, "", 0, {"n": re.compile(NUMBER), "f": re.compile("[01]")}
+    gap = re.compile("[ \t\r\n\f,]*")
+    while (at := gap.match(text, at).end()) < len(text):
+        if text[at] in "mzlhvcsqtaMZLHVCSQTA":
+            kind, at = text[at].lower(), at + 1
+        elif kind == "z":
+            kind = ""
+        for form in COMMANDS.get(kind if parts or kind == "m" else "", "?"):
+            at = gap.match(text, at).end()
+            found = form != "?" and words[form].match(text, at)
+            if not found:
+                raise Refused(f"its path can't be read at character {at + 1}, {text[at:at + 12]!r}")
+            at = found.end()
+        parts += 1
+    path = Path(text)
+    if len(path) != parts:
+        raise Refused("its path can't be read: simplify it (Path > Simplify)")
+    return path
+
+
+def rectangle(x, y, width, height, rx, ry):
+    """The library's path of a rectangle; a radius that isn't given is None."""
+    rx, ry = min((ry if rx is None else rx) or 0, width / 2), min((rx if ry is None else ry) or 0, height / 2)
+    if min(width, height, rx, ry) < 0:
+        raise Refused("a negative size")
+    return Path(Rect(x, y, width, height, rx if ry else 0, ry if rx else 0)) if width and height else Path()
+
+
+def ellipse(x, y, rx, ry):
+    """The library's path of an ellipse."""
+    if min(rx, ry) < 0:
+        raise Refused("a negative radius")
+    return Path(Ellipse(x, y, rx, ry)) if rx and ry else Path()
+
+
+def shape_path(kind, element, size):
+    """The library's path of a shape, in its own units."""
+    whole = dict(zip("xy", size), r=None if None in size else math.hypot(*size) / math.sqrt(2))
+    at = {name: None if kind == "rect" and element.get(name, "auto" if name[0] == "r" else "0").strip() == "auto"
+          else length(element, name, "0", whole[axis]) for name, axis in LENGTHS.get(kind, {}).items()}
+    if kind == "rect":
+        return rectangle(*at.values())
+    if kind in ("circle", "ellipse"):
+        return ellipse(at["cx"], at["cy"], at.get("r", at.get("rx")), at.get("r", at.get("ry")))
+    if kind == "line":
+        return Path(f"M{at['x1']!r},{at['y1']!r} {at['x2']!r},{at['y2']!r}")
+    points = element.get("points", "").strip()
+    text = element.get("d", "") if kind == "path" else f"M{points}{'z' * (kind == 'polygon')}" if points else ""
+    return path_of(text)
+
+
+def lines_of(path, matrix):
+    """The lines of a path in tenths of a millimetre: lists of pieces, each two points, or the four of a cubic curve."""
+    lines, going = [], False
+    for part in path:
+        if isinstance(part, Move):
+            going = False
+            continue
+        a, b = complex(*part.start), complex(*part.end)
+        pieces = [(a, b)]
+        if isinstance(part, CubicBezier):
+            pieces = [(a, complex(*part.control1), complex(*part.control2), b)]
+        elif isinstance(part, QuadraticBezier):
+            c = complex(*part.control)
+            pieces = [(a, (a + 2 * c) / 3, (b + 2 * c) / 3, b)]
+        elif isinstance(part, Arc) and part.rx and part.ry and a != b:
+            count = math.ceil(abs(part.sweep) / (math.tau / 32))
+            pieces = [tuple(complex(*point) for point in curve) for curve in part.as_cubic_curves(count)] or pieces
+        if not going:
+            lines.append([])
+        lines[-1] += [tuple(moved(matrix, point) for point in piece) for piece in pieces]
+        going = not isinstance(part, Close)
+    return lines
+
+
+def moved(matrix, point):
+    """A point in tenths of a millimetre, from one in the units of a shape."""
+    x = PX * (matrix.a * point.real + matrix.c * point.imag + matrix.e)
+    y = PX * (matrix.b * point.real + matrix.d * point.imag + matrix.f)
+    if not abs(x) + abs(y) < 1e9:
+        raise Refused("its numbers are too large")
+    return complex(x, y)
+
+
+class Reader:
+    """Collects the lines of a document's visible strokes by colour, counts what is left out, and lists what isn't a line."""
+
+    def __init__(self, root):
+        self.by_id, self.parents = {}, {child: element for element in root.iter() for child in element}
+        for element in root.iter():
+            self.by_id.setdefault(element.get("id"), element)
+        self.rules, self.faults, self.left_out, self.visits = style_rules(root), [], Counter(), 0
+        self.blocks, self.notes = {}, []
+        self.visit(root, Place(Matrix(), dict(INHERITED)))
+
+    def visit(self, element, place, clone=None):
+        """Reads an element and all that is in it. A clone is the `use` that refers to the element."""
+        kind = kind_of(element)
+        self.visits += 1
+        if self.visits > ELEMENTS:
+            raise TooMuch(f"more than {ELEMENTS} elements with those of clones: unlink or delete some")
+        if not kind or kind in PASSED and not (kind == "symbol" and clone is not None):
+            return
+        try:
+            place = self.inside(kind, element, place, clone)
+            if kind in GROUPS:
+                children = [child for child in element if kind_of(child) and not (
+                    kind == "switch" and (child.get("requiredExtensions") or child.get("systemLanguage")))]
+                for child in children[:1] if kind == "switch" else children:
+                    self.visit(child, place)
+            elif place.left_out or place.style["visibility"] in ("hidden", "collapse"):
+                self.left_out[place.left_out or "hidden"] += 1
+            else:
+                self.visit_leaf(kind, element, place)
+        except Refused as why:
+            self.faults.append(f"{kind} {element.get('id', 'without id')!r}: {why}")
+        except (ArithmeticError, ValueError):
+            self.faults.append(f"{kind} {element.get('id', 'without id')!r}: its numbers are too large")
+
+    def visit_leaf(self, kind, element, place):
+        """Reads an element that isn't a group, and is visible."""
+        if kind == "use":
+            self.visit_clone(element, place)
+        elif kind in SHAPES:
+            self.draw(kind, element, place)
+        elif kind == "image":
+            raise Refused("trace its lines (Path > Trace Bitmap), or delete it")
+        elif kind not in TEXTS:
+            raise Refused("it isn't a line: convert it to a path (Path > Object to Path), or delete it")
+        elif "".join(element.itertext()).strip():
+            raise Refused("convert it to a path (Path > Object to Path), or draw its letters as lines")
+
+    def inside(self, kind, element, place, clone):
+        """The place of an element's own shape, or of the elements in it."""
+        style = style_of(element, place.style, self.rules, self.parents)
+        left_out = "hidden" if style["display"] == "none" else "transparent" if is_clear(style["opacity"]) else ""
+        if place.left_out or left_out:
+            return place._replace(style=style, left_out=place.left_out or left_out)
+        if style["moves"]:
+            raise Refused(f"its style has {style['moves']!r}, which isn't read: simplify it (Path > Simplify)")
+        if style["clip-path"] != "none" or style["mask"] != "none":
+            raise Refused("it is clipped or masked: release that (Object > Clip or Mask > Release)")
+        matrix = transform_of(element.get("transform", "")) * place.matrix
+        label = element.get(LABEL) or element.get("id")
+        labels = place.labels + ((label,) if label and kind in SHAPES | {"use"} else ())
+        place = place._replace(matrix=matrix, style=style, labels=labels)
+        return self.viewport(element, place, clone) if kind in ("svg", "symbol") else place
+
+    def page_size(self, asked, box):
+        """The size of which the document's percentages are, in px. One side alone gives the other by the viewBox."""
+        given = [name for name in asked if "%" not in asked[name]]
+        if not box:
+            return None, None
+        if not given:
+            self.notes.append("size: not given, so a unit is a px of 1/96 inch; --width=N gives another")
+        rate = 1
+        if len(given) == 1:
+            rate = length(asked, given[0], "", None) / box[2 if given == ["width"] else 3]
+            asked.update({name: "100%" for name in asked if name not in given})
+        return rate * box[2], rate * box[3]
+
+    def viewport(self, element, place, clone):
+        """The place inside the document, an `svg` in it or a symbol, whose sides a clone may give."""
+        box, outer = view_box(element), element not in self.parents
+        asked = {name: element.get(name, "100%").strip() for name in ("width", "height")}
+        asked.update({name: clone.get(name).strip() for name in asked if clone is not None and clone.get(name)})
+        asked = {name: "100%" if text == "auto" else text for name, text in asked.items()}
+        whole = self.page_size(asked, box) if outer else place.size
+        x, y = (0, 0) if outer else (length(element, name, "0", part) for name, part in zip("xy", whole))
+        sides = [None if part is None and "%" in asked[name] else length(asked, name, "", part)
+                 for name, part in zip(asked, whole)]
+        if any(side is not None and side <= 0 for side in sides):
+            raise Refused("its width or height isn't greater than 0")
+        if not box:
+            return place._replace(matrix=Matrix(1, 0, 0, 1, x, y) * place.matrix, size=tuple(sides))
+        if None in sides:
+            raise Refused("its size is a part of one that isn't given: set width and height of the document")
+        return place._replace(matrix=fitted(element, x, y, *sides, box) * place.matrix, size=tuple(box[2:]))
+
+    def visit_clone(self, element, place):
+        """Reads what a `use` refers to, at its place."""
+        name = element.get("href", element.get(XLINK + "href", "")).strip()
+        target = self.by_id.get(name[1:]) if name[:1] == "#" and name[1:] else None
+        if target is None:
+            raise Refused(f"it is a clone of {name!r}, which isn't in the file: delete it")
+        if target in place.uses:
+            raise Refused(f"it is a clone of {name!r}, which contains it: unlink it (Edit > Clone > Unlink Clone)")
+        x, y = (length(element, axis, "0", whole) for axis, whole in zip("xy", place.size))
+        place = place._replace(matrix=Matrix(1, 0, 0, 1, x, y) * place.matrix, uses=place.uses + (target,))
+        self.visit(target, place, element)
+
+    def draw(self, kind, element, place):
+        """Adds the lines of a shape to the block of its colour."""
+        style = place.style
+        stroke = "transparent" if is_clear(style["stroke-width"].rstrip("px")) else painted(style, "stroke")
+        if isinstance(stroke, tuple):
+            lines = lines_of(shape_path(kind, element, place.size), place.matrix)
+            label = plain("/".join(place.labels))
+            self.left_out["empty"] += not lines
+            self.blocks.setdefault(stroke, []).extend((label, line) for line in lines)
+        elif kind != "line" and (style["fill"].startswith("url(") or isinstance(painted(style, "fill"), tuple)):
+            raise Refused("it has a fill and no stroke: give it a stroke (Object > Fill and Stroke), or delete it")
+        else:
+            self.left_out["transparent" if stroke else "without a stroke"] += 1
