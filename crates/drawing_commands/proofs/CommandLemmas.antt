@@ -1,7 +1,7 @@
 -- What is proved of each command: its plan decides, and the outputs of its products are the files that it writes.
 use Rattle.std.proofs.Common.{[], ◌∷◌, Ok, Err, Result}
 use Rattle.drawing_commands.proofs.Names.{DrawingValue, stitch_drawing, BadEdit, drawing_edit_read, edited_plan, edits_applied, look_read, DrawingOrder, editing, snap_made, snap_read, space_made, space_read, SnappedDrawing, snap_of, drawing_of, IsSoundPlan, accepts_sound, named, parses_sound, program_sound, refuses_sound, SpacedDrawing, drawing_outputs_of, drawing_plan_of, IsEdited, IsLook, looking, snapping, spacing, IsSnapProduct, IsSpaceProduct}
-use Rattle.program_inputs.specs.DrawingLines.{lines_read}
+use Rattle.drawing_text.specs.DrawingLines.{lines_read}
 use Rattle.line_graph.specs.declared.draw_kind.DrawKind.{DrawKind}
 use Rattle.drawing_repairs.specs.declared.snap_fault.SnapFault.{SnapFault}
 use Rattle.program_shell.specs.ExactPlans.{IsSoundProgram}

@@ -4,8 +4,8 @@ use Rattle.std.specs.Prelude.{◌≡◌, ℕ, List, Result}
 use Rattle.drawing_review.specs.Places.{places_of_lines}
 use Rattle.drawing_text.specs.declared.drawn_lines.DrawnLines.{DrawnLines}
 use Rattle.drawing_text.specs.declared.draw_fault.DrawFault.{DrawFault}
-use Rattle.program_inputs.specs.declared.drawing_lines.LinesRead.{LinesRead}
-use Rattle.program_inputs.specs.DrawingLines.{lines_read}
+use Rattle.drawing_text.specs.declared.lines_read.LinesRead.{LinesRead}
+use Rattle.drawing_text.specs.DrawingLines.{lines_read}
 use Rattle.line_graph.specs.Drawings.{DrawingValue}
 use Rattle.line_graph.specs.declared.piece.Piece.{Piece}
 use Rattle.line_graph.specs.PiecesOfDrawings.{ArePiecesOf}

@@ -6,8 +6,8 @@ use Rattle.drawing_repairs.specs.declared.snapping.SnappedDrawing.{SnappedDrawin
 use Rattle.drawing_repairs.specs.SecondSnaps.{StaysSnapped}
 use Rattle.drawing_repairs.specs.Snaps.{snap_of}
 use Rattle.drawing_text.specs.declared.draw_fault.DrawFault.{DrawFault}
-use Rattle.program_inputs.specs.declared.drawing_lines.LinesRead.{LinesRead}
-use Rattle.program_inputs.specs.DrawingLines.{lines_read}
+use Rattle.drawing_text.specs.declared.lines_read.LinesRead.{LinesRead}
+use Rattle.drawing_text.specs.DrawingLines.{lines_read}
 use Rattle.line_graph.specs.Drawings.{DrawingValue}
 use Rattle.line_graph.specs.declared.piece.Piece.{Piece}
 use Rattle.line_graph.specs.PiecesOfDrawings.{ArePiecesOf}

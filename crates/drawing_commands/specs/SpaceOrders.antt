@@ -4,8 +4,8 @@ use Rattle.std.specs.Prelude.{ℕ, List, ◌++◌, length, Result, Ok, Err}
 use Rattle.spaced_lines.specs.declared.spaced_drawing.SpacedDrawing.{SpacedDrawing}
 use Rattle.spaced_lines.specs.SpacedDrawings.{space_of}
 use Rattle.drawing_text.specs.declared.draw_fault.DrawFault.{DrawFault}
-use Rattle.program_inputs.specs.declared.drawing_lines.LinesRead.{LinesRead}
-use Rattle.program_inputs.specs.DrawingLines.{lines_read}
+use Rattle.drawing_text.specs.declared.lines_read.LinesRead.{LinesRead}
+use Rattle.drawing_text.specs.DrawingLines.{lines_read}
 use Rattle.line_graph.specs.declared.draw_kind.DrawKind.{DrawKind}
 use Rattle.line_graph.specs.declared.piece.Piece.{Piece}
 use Rattle.line_graph.specs.Drawings.{DrawingValue}

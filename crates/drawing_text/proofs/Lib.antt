@@ -14,6 +14,7 @@ mod TextLawLemmas
 mod DrawingTextFacts
 mod EndTextFacts
 mod ValidTextLemmas
+mod DrawnDraftLemmas
 mod OrderedTextLemmas
 mod ValidTextFacts
 mod CoordinateLemmas

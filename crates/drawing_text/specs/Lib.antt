@@ -13,6 +13,8 @@ pub mod DrawingText
 pub mod ValidTexts
 -- The lines of a text as they are drawn.
 pub mod DrawnTexts
+-- Both at once: the drawing, and the lines as they are drawn.
+pub mod DrawingLines
 -- Theorems over these definitions.
 pub mod TextLaws
 -- Used only inside this crate.

@@ -1,20 +1,14 @@
-ghost use Rattle.design_model.specs.OutOfMemory.{IsSpecified};
-ghost use Rattle.drawing_text.specs.DrawingText.{IsDrawingOfVersion, IsJoinedWithoutEnds, ReadsDrawing, at_line, joined_at, drawing_of_draft};
 ghost use Rattle.drawing_text.specs.TextLines.{with_color_line, with_walk_end_line, empty_draft, allows_ends, draft_after_words, with_points_line, with_name_line, with_step_line};
 ghost use Rattle.drawing_text.specs.Words.{single_word, words_of_line};
-ghost use Rattle.drawing_text.specs.declared.version.Version.TheVariants as version;
-ghost use Rattle.line_graph.specs.GrowingDrawings.{ChangesAsSpecified, and_then, finished_drawing, draw_is_out_of_memory};
-ghost use Rattle.line_graph.specs.JoinedDrawings.{joined_drawing};
-ghost use Rattle.std.specs.Prelude.{◌≡◌, IfOk};
+ghost use Rattle.line_graph.specs.GrowingDrawings.{ChangesAsSpecified};
+ghost use Rattle.std.specs.Prelude.{◌≡◌};
 
-use crate::draw_fault::{DrawFault, fault_with_line};
-use crate::ending::with_ends;
 use crate::number_words::count_in;
 use crate::point_words::{point_of_words, points_of_words};
 use crate::text_words::{is_comment, next_word, only_word};
 use crate::version::Version;
 use crate::walk_end::{WalkEnd, WalkEnds};
-use line_graph::{DrawKind, Drawing, DrawingMaker, Spot, is_label_word, join};
+use line_graph::{DrawKind, DrawingMaker, Spot, is_label_word};
 use std::alloc::Global;
 use step_splitter::MAX_STEP;
 use text_parts::equals_text;
@@ -167,67 +161,6 @@ impl DrawingDraft {
         })?;
         Ok(())
     }
-
-    /// Returns the drawing in the given version, where the text ends before the line of the given number.
-    pub fn finish(self, alloc: Global, version: Version, number: u32) -> Result<Drawing, DrawFault>
-        ensures answer { ReadsDrawing (drawing_of_draft version number self) result }
-        ensures meant { IfOk result (IsDrawingOfVersion version) }
-    {
-        match version {
-            Version::One => self.drawn(number),
-            Version::Two => self.joined(alloc, number),
-            Version::Three => self.ended(alloc, number),
-        }
-    }
-
-    /// Returns the drawing of the lines as they are.
-    fn drawn(self, number: u32) -> Result<Drawing, DrawFault>
-        ensures { ReadsDrawing (at_line number self.opened (finished_drawing self.drawing)) result }
-    {
-        let opened = self.opened;
-        match self.drawing.finish() {
-            Ok(drawing) => Ok(drawing),
-            Err(kind) => Err(fault_with_line(number, opened, kind)),
-        }
-    }
-
-    /// Returns the drawing of the sections of the lines.
-    fn joined(self, alloc: Global, number: u32) -> Result<Drawing, DrawFault>
-        ensures answer { ReadsDrawing (joined_at number self) result }
-        ensures whole { IfOk result IsJoinedWithoutEnds }
-    {
-        let opened = self.opened;
-        match joined_lines(alloc, self.drawing) {
-            Ok(drawing) => Ok(drawing),
-            Err(kind) => Err(fault_with_line(number, opened, kind)),
-        }
-    }
-
-    /// Returns the drawing of the sections of the lines, with the starts and ends.
-    fn ended(self, alloc: Global, number: u32) -> Result<Drawing, DrawFault>
-        ensures { ReadsDrawing (drawing_of_draft version.Three number self) result }
-    {
-        let DrawingDraft {
-            drawing,
-            opened,
-            ends,
-            ..
-        } = self;
-        match joined_lines(alloc, drawing) {
-            Ok(drawing) => with_ends(alloc, drawing, ends.as_slice()),
-            Err(kind) => Err(fault_with_line(number, opened, kind)),
-        }
-    }
-}
-
-/// Returns the finished drawing, with its lines replaced by their sections.
-fn joined_lines(alloc: Global, drawing: DrawingMaker) -> Result<Drawing, DrawKind>
-    ensures answer { IsSpecified draw_is_out_of_memory
-        (and_then (finished_drawing drawing) joined_drawing) result }
-    ensures whole { IfOk result IsJoinedWithoutEnds }
-{
-    let drawn = drawing.finish()?;
-    join(alloc, &drawn)
 }
 
 fn has_ends(version: Version) -> bool

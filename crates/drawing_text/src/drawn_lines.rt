@@ -2,7 +2,8 @@ ghost use Rattle.design_model.specs.declared.limits.TheConstants.{MAX_FILE};
 ghost use Rattle.drawing_text.specs.DrawnTexts.{ReadsLines, lines_after, lines_of, lines_of_draft};
 ghost use Rattle.drawing_text.specs.TextLines.{empty_draft};
 ghost use Rattle.drawing_text.specs.Words.{words_by_line};
-ghost use Rattle.std.specs.Prelude.{◌+◌, ◌≤◌, length};
+ghost use Rattle.line_graph.specs.WalkEnds.{HasNoEnds};
+ghost use Rattle.std.specs.Prelude.{◌≡◌, ◌+◌, ◌≤◌, IfOk, length};
 
 use crate::draft::DrawingDraft;
 use crate::draft_reading::draft_of_lines;
@@ -41,12 +42,13 @@ fn lines_in(
     ensures { ReadsLines (lines_after version first empty_draft (words_by_line text.now)) result }
 {
     let (draft, number) = draft_of_lines(alloc, version, first, text)?;
-    drawn(version, number, draft)
+    drawn_in(version, number, draft)
 }
 
 /// Returns the lines of a draft, where the text ends before the line of the given number.
-fn drawn(version: Version, number: u32, draft: DrawingDraft) -> Result<DrawnLines, DrawFault>
-    ensures { ReadsLines (lines_of_draft version number draft) result }
+pub fn drawn_in(version: Version, number: u32, draft: DrawingDraft) -> Result<DrawnLines, DrawFault>
+    ensures value { result ≡ lines_of_draft version number draft }
+    ensures no_ends { IfOk result (λ drawn. HasNoEnds drawn.drawing) }
 {
     let DrawingDraft {
         drawing,

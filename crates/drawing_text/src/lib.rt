@@ -9,6 +9,7 @@ mod draw_fault;
 mod drawn_lines;
 mod end_printing;
 mod ending;
+mod lines_read;
 mod number_words;
 mod point_words;
 mod printing;
@@ -21,8 +22,9 @@ mod walk_end;
 pub use draw_fault::DrawFault;
 pub use drawn_lines::{DrawnLines, read_lines};
 pub use end_printing::print_drawn;
+pub use lines_read::LinesRead;
 pub use printing::{print_drawing, print_drawing2};
-pub use reading::{read_as2, read_drawing};
+pub use reading::{read_as2, read_drawing, read_with_lines};
 pub use theorems::{
     canonical_text_is_read, drawn_texts_are_read, texts_define_valid_drawings, texts_order_ends,
 };

@@ -1,12 +1,16 @@
+ghost use Rattle.design_model.specs.OutOfMemory.{IsSpecified};
 ghost use Rattle.design_model.specs.declared.limits.TheConstants.{MAX_FILE};
-ghost use Rattle.drawing_text.specs.DrawingText.{IsDrawingOfVersion, IsJoinedWithoutEnds, ReadsDrawing, body_of_text, drawing_as2, drawing_of, drawing_after_lines, parsed_header, parsed_version};
+ghost use Rattle.drawing_text.specs.DrawingLines.{lines_read};
+ghost use Rattle.drawing_text.specs.DrawingText.{IsDrawingOfVersion, IsJoinedWithoutEnds, ReadsDrawing, body_of_text, draw_fault_is_out_of_memory, drawing_as2, drawing_of, drawing_after_lines, parsed_header, parsed_version};
 ghost use Rattle.drawing_text.specs.TextLines.{empty_draft};
 ghost use Rattle.drawing_text.specs.Words.{is_ignored_line, words_by_line, words_of_line};
+ghost use Rattle.line_graph.specs.EndOrders.{HasOrderedEnds};
 ghost use Rattle.std.specs.Prelude.{◌≡◌, ◌+◌, ◌≤◌, Ok, Err, length, IfOk, IfErr};
 
-use crate::draft_reading::draft_of_lines;
 use crate::draw_fault::{DrawFault, fault_with_line};
+use crate::lines_read::{LinesRead, read_body};
 use crate::text_words::{is_comment, next_line, next_word, only_word, without_return};
+use crate::theorems::texts_order_ends;
 use crate::version::Version;
 use line_graph::{DrawKind, Drawing};
 use std::alloc::Global;
@@ -19,7 +23,20 @@ pub fn read_drawing(alloc: Global, bytes: &[u8]) -> Result<Drawing, DrawFault>
     ensures { ReadsDrawing (drawing_of bytes.now) result }
 {
     let (version, header, text) = find_body(bytes)?;
-    read_body(alloc, version, header + 1, text)
+    drawing_after(alloc, version, header + 1, text)
+}
+
+/// Returns the drawing that a text describes and its lines as they are drawn, or the first fault in the
+/// order of its lines. The text is read once.
+pub fn read_with_lines(alloc: Global, bytes: &[u8]) -> Result<LinesRead, DrawFault>
+    requires { length bytes.now ≤ MAX_FILE }
+    ensures answer { IsSpecified draw_fault_is_out_of_memory (lines_read bytes.now) result }
+    ensures ordered { IfOk result (λ read. HasOrderedEnds read.drawing) }
+{
+    texts_order_ends();
+    let (version, header, text) = find_body(bytes)?;
+    let read = read_body(alloc, version, header + 1, text)?;
+    Ok(read)
 }
 
 /// Returns the drawing that a text of version 1 or 2 describes when it is read as version 2, or its first
@@ -31,7 +48,7 @@ pub fn read_as2(alloc: Global, bytes: &[u8]) -> Result<Drawing, DrawFault>
 {
     match find_body(bytes)? {
         (Version::Three, header, _) => Err(fault_with_line(header, 0, DrawKind::BadHeader)),
-        (_, header, text) => read_body(alloc, Version::Two, header + 1, text),
+        (_, header, text) => drawing_after(alloc, Version::Two, header + 1, text),
     }
 }
 
@@ -92,12 +109,17 @@ fn version_of_word(word: &[u8]) -> Option<Version>
     }
 }
 
-fn read_body(alloc: Global, version: Version, first: u32, text: &[u8]) -> Result<Drawing, DrawFault>
+fn drawing_after(
+    alloc: Global,
+    version: Version,
+    first: u32,
+    text: &[u8],
+) -> Result<Drawing, DrawFault>
     requires { first + length text.now ≤ MAX_FILE + 1 }
     ensures answer { ReadsDrawing (drawing_after_lines version first empty_draft
         (words_by_line text.now)) result }
     ensures meant { IfOk result (IsDrawingOfVersion version) }
 {
-    let (draft, number) = draft_of_lines(alloc, version, first, text)?;
-    draft.finish(alloc, version, number)
+    let LinesRead { drawing, .. } = read_body(alloc, version, first, text)?;
+    Ok(drawing)
 }

@@ -8,7 +8,7 @@ ghost use Rattle.std.specs.Prelude.{◌≡◌, ◌<◌, ◌≤◌, IfOk, length,
 use crate::drawing_parts::DrawingParts;
 use crate::limits::MAX_BLOCKS;
 use arrayvec::ArrayVec;
-use design_model::{MAX_LABEL, Memory, Point};
+use design_model::{MAX_LABEL, Memory, Point, Points};
 use line_sections::{Line, Spot};
 use std::alloc::Global;
 use std::marker::Model;
@@ -53,10 +53,19 @@ impl Drawing {
             step: self.parts.step,
             threads,
             lines,
-            starts: copied(alloc, self.starts())?,
-            ends: copied(alloc, self.ends())?,
+            starts: copied_spots(alloc, self.starts())?,
+            ends: copied_spots(alloc, self.ends())?,
         };
         Ok(Drawing::of_parts(parts))
+    }
+
+    /// Returns a copy of the drawing.
+    pub fn copied(&self, alloc: Global) -> Result<Drawing, Memory>
+        ensures { IfOk result (λ d. d ≡ self.now) }
+    {
+        self.keeps_limits();
+        let lines = copied_lines(alloc, self.lines())?;
+        self.with_lines(alloc, lines)
     }
 
     /// Returns the drawing with other starts and ends.
@@ -169,7 +178,25 @@ impl Drawing {
     }
 }
 
-fn copied(alloc: Global, spots: &[Spot]) -> Result<Vec<Spot>, Memory>
+fn copied_lines(alloc: Global, lines: &[Line]) -> Result<Vec<Line>, Memory>
+    ensures { IfOk result (λ copy. copy.items ≡ lines.now) }
+{
+    let mut copy = Vec::new(alloc);
+    for line in lines {
+        copy.push(copied_line(alloc, line)?)?;
+    }
+    Ok(copy)
+}
+
+fn copied_line(alloc: Global, line: &Line) -> Result<Line, Memory>
+    ensures { IfOk result (λ copy. copy ≡ line.now) }
+{
+    let mut points = Points::new(alloc);
+    points.append(line.points())?;
+    Ok(Line::new(line.block(), points))
+}
+
+fn copied_spots(alloc: Global, spots: &[Spot]) -> Result<Vec<Spot>, Memory>
     ensures { IfOk result (λ copy. copy.items ≡ spots.now) }
 {
     let mut copy = Vec::new(alloc);

@@ -2,6 +2,7 @@
 use Rattle.std.proofs.Common.{◌≡◌, [], ◌∷◌, ℕ, List, Some, None, Ok, ap, map, sym, ◌∙◌}
 use Rattle.certificate_text.specs.ReadCertificates.{cert_of}
 use Rattle.drawing_picture.specs.CheckedProofs.{certificate_reason}
+use Rattle.drawing_text.specs.DrawingLines.{lines_read}
 use Rattle.drawing_text.specs.DrawingText.{drawing_of}
 use Rattle.line_graph.specs.Drawings.{DrawingValue}
 use Rattle.line_graph.specs.PieceGraphs.{piece_graph}
@@ -9,7 +10,6 @@ use Rattle.line_graph.specs.UniquePieces.{PiecesAreUnique}
 use Rattle.odd_cuts.specs.declared.certificate.PieceCert.{PieceCert}
 use Rattle.program_shell.specs.ExactPlans.{IsSoundProgram}
 use Rattle.program_shell.specs.Products.{ProductValue}
-use Rattle.program_inputs.specs.DrawingLines.{lines_read}
 use Rattle.picture_commands.specs.DrawnPictures.{IsPictureDrawn, drawn_read}
 use Rattle.picture_commands.specs.Orders.{PictureOrder, picture_outputs, picture_plan, picture_program, drawing, proving, showing}
 use Rattle.picture_commands.specs.Pictures.{picture_read}

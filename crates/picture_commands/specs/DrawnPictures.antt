@@ -2,11 +2,11 @@
 use Rattle.std.specs.Prelude.{◌≡◌, ℕ, List, [], Result, Ok, Err}
 use Rattle.drawing_picture.specs.DrawingPictures.{IsDrawingPicture}
 use Rattle.drawing_text.specs.declared.draw_fault.DrawFault.{DrawFault}
+use Rattle.drawing_text.specs.declared.lines_read.LinesRead.{LinesRead}
+use Rattle.drawing_text.specs.DrawingLines.{lines_read}
 use Rattle.program_shell.specs.Plans.{Plan, accepts, reads, refuses}
 use Rattle.program_shell.specs.Products.{ProductValue, one_file_product}
 use Rattle.program_texts.specs.DrawingTexts.{draw_fault_text}
-use Rattle.program_inputs.specs.declared.drawing_lines.LinesRead.{LinesRead}
-use Rattle.program_inputs.specs.DrawingLines.{lines_read}
 
 -- An order: the picture of a drawing, by the names of the two files.
 pub record DrawnOrder : Type 0 where

@@ -1,5 +1,4 @@
 -- Read this one first: what loading a file means.
 pub mod Loading
 pub mod FoundFiles
-pub mod DrawingLines
 pub mod CertificateFiles

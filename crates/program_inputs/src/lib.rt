@@ -12,6 +12,7 @@ mod reading;
 
 pub use certificate_files::cert_in;
 pub use drawing_files::{drawing_as2_in, drawing_in};
-pub use drawing_lines::{LinesRead, lines_in};
+pub use drawing_lines::lines_in;
+pub use drawing_text::LinesRead;
 pub use format_indexes::{Found, format_at, load_at, load_found};
 pub use reading::read_input;

@@ -1,6 +1,9 @@
 use super::drawings::compare_squares;
 use design_model::{Bytes, MAX_FILE};
-use drawing_text::{DrawFault, print_drawing, print_drawing2, read_as2, read_drawing, read_lines};
+use drawing_text::{
+    DrawFault, LinesRead, print_drawing, print_drawing2, read_as2, read_drawing, read_lines,
+    read_with_lines,
+};
 use line_graph::DrawKind::{
     self, BadHeader, BadNumber, BadWord, EmptyBlock, FewPoints, NoBlock, OutOfRange, RepeatedPoint,
     TooManyBlocks, TooManyLines, TooManyPoints, TooMuchCost,
@@ -190,5 +193,29 @@ fn lines_are_read_as_they_are_drawn(rt: HostRuntime) -> Result<(), Fail> {
     assert_eq!(rt; drawn.drawing.line_count(), 2);
     assert_eq!(rt; drawn.ends.len(), 1);
     assert_eq!(rt; fault(rt.alloc(), text).0, 5);
+    Ok(())
+}
+
+fn with_lines(alloc: Global, text: &[u8]) -> Option<LinesRead> {
+    if text.len() as u64 > MAX_FILE {
+        return None;
+    }
+    read_with_lines(alloc, text).ok()
+}
+
+#[test]
+fn a_drawing_and_its_lines_are_read_together(rt: HostRuntime) -> Result<(), Fail> {
+    // The lines that are drawn, the lines of the drawing, and its ends.
+    let table = [
+        ("redwork 1\ncolor 1\nline 0 0 9 0 9 9\nline 9 -9 9 0\n", (2, 2, 0)),
+        ("redwork 2\ncolor 1\nline 0 0 9 0 9 9\nline 9 -9 9 0\n", (2, 3, 0)),
+        ("redwork 3\ncolor 1\nline 0 0 9 0 9 9\nline 9 -9 9 0\nend 9 0\n", (2, 3, 1)),
+    ];
+    for (text, (drawn, joined, ends)) in table {
+        let read = with_lines(rt.alloc(), text.as_bytes()).ok_or("lines")?;
+        assert_eq!(rt; read.drawn.drawing.line_count(), drawn);
+        assert_eq!(rt; read.drawing.line_count(), joined);
+        assert_eq!(rt; read.drawing.ends().len(), ends);
+    }
     Ok(())
 }
