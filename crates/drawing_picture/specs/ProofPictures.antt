@@ -1,6 +1,6 @@
 -- The picture of a proof: the walks of a certificate as the design that sews them, with what is
--- sewn again in a second colour, and the cuts as bands. Below it stands why no shorter thread
--- exists. The unit is a tenth of a millimetre.
+-- sewn again in a second colour, and the cuts as bands. Below it stands why no thread has fewer
+-- stitches. The unit is a tenth of a millimetre.
 use Rattle.std.specs.Prelude.{ℕ, ◌+◌, ◌*◌, List, [], ◌∷◌, ◌++◌, codes, sum_by}
 use Rattle.std.specs.Fmt.{decimal}
 use Rattle.design_model.specs.Designs.{DesignValue}
@@ -33,16 +33,16 @@ proof_area design pen = area_of (extent_of design) (record { width = 0; height =
 abbrev pub retraced_steps : List PieceCert → ℕ
 retraced_steps certs = sum_by (λ (cert : PieceCert). cert.retraced) certs
 
--- Why no shorter thread exists, without the last line.
+-- Why no thread has fewer stitches, without the last line.
 abbrev pub reason_text : List ℕ
 reason_text = codes "<text class='small' y='24'>Blue: sewn again. Bands of one colour: a cut, round"
     ++ (codes " the junctions</text>"
-    ++ (10 ∷ codes "<text class='small' y='46'>that it holds, as wide as its weight. No thread is"
-    ++ (codes " shorter: an odd</text>"
-    ++ (10 ∷ codes "<text class='small' y='68'>number of lines leads out of each cut (a given"
-    ++ (codes " end's way back to</text>"
-    ++ (10 ∷ codes "<text class='small' y='90'>the start is one), so a thread passes the width of"
-    ++ (codes " its band once</text>"
+    ++ (10 ∷ codes "<text class='small' y='46'>that it holds, as wide as its weight. No thread"
+    ++ (codes " has fewer stitches:</text>"
+    ++ (10 ∷ codes "<text class='small' y='68'>an odd number of lines leads out of each cut (a"
+    ++ (codes " given end's way back</text>"
+    ++ (10 ∷ codes "<text class='small' y='90'>to the start is one), so a thread passes the width"
+    ++ (codes " of its band once</text>"
     ++ (10 ∷ codes "<text class='small' y='112'>more than the lines ask, and all bands together"
     ++ ended (codes " are as wide as</text>")))))))))
 

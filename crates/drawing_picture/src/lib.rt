@@ -1,4 +1,4 @@
-//! The picture of a drawing, with its junctions. The picture of a proof that no shorter thread over it exists: the
+//! The picture of a drawing, with its junctions. The picture of a proof that no thread has fewer stitches: the
 //! walks of its certificate as they are sewn, with the cuts as bands.
 #![tactic(auto)]
 

@@ -7,12 +7,12 @@ use design_picture::LINE_HEIGHT;
 use odd_cuts::PieceCert;
 use picture_parts::{Part, put};
 
-/// Why no shorter thread exists, without its last line.
+/// Why no thread has fewer stitches, without its last line.
 const REASON: &[u8] =
     b"<text class='small' y='24'>Blue: sewn again. Bands of one colour: a cut, round the junctions</text>\n\
-<text class='small' y='46'>that it holds, as wide as its weight. No thread is shorter: an odd</text>\n\
-<text class='small' y='68'>number of lines leads out of each cut (a given end's way back to</text>\n\
-<text class='small' y='90'>the start is one), so a thread passes the width of its band once</text>\n\
+<text class='small' y='46'>that it holds, as wide as its weight. No thread has fewer stitches:</text>\n\
+<text class='small' y='68'>an odd number of lines leads out of each cut (a given end's way back</text>\n\
+<text class='small' y='90'>to the start is one), so a thread passes the width of its band once</text>\n\
 <text class='small' y='112'>more than the lines ask, and all bands together are as wide as</text>\n";
 
 /// The height of the reason, in lines of the legend.
@@ -30,7 +30,7 @@ pub(crate) fn steps_again(certs: &[PieceCert]) -> u64
     steps
 }
 
-/// Appends the reason why no shorter thread exists, below a legend of so many lines.
+/// Appends the reason why no thread has fewer stitches, below a legend of so many lines.
 #[tactic(auto, unfolding(crate::specs::ProofPictures::reason_lines))]
 pub(crate) fn put_reason(text: &mut Bytes, lines: u32, steps: u64) -> Result<(), Memory>
     ensures { OnOk result (text.new ≡ text.old ++ reason_lines lines steps) }
