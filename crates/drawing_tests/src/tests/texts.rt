@@ -207,9 +207,18 @@ fn with_lines(alloc: Global, text: &[u8]) -> Option<LinesRead> {
 fn a_drawing_and_its_lines_are_read_together(rt: HostRuntime) -> Result<(), Fail> {
     // The lines that are drawn, the lines of the drawing, and its ends.
     let table = [
-        ("redwork 1\ncolor 1\nline 0 0 9 0 9 9\nline 9 -9 9 0\n", (2, 2, 0)),
-        ("redwork 2\ncolor 1\nline 0 0 9 0 9 9\nline 9 -9 9 0\n", (2, 3, 0)),
-        ("redwork 3\ncolor 1\nline 0 0 9 0 9 9\nline 9 -9 9 0\nend 9 0\n", (2, 3, 1)),
+        (
+            "redwork 1\ncolor 1\nline 0 0 9 0 9 9\nline 9 -9 9 0\n",
+            (2, 2, 0),
+        ),
+        (
+            "redwork 2\ncolor 1\nline 0 0 9 0 9 9\nline 9 -9 9 0\n",
+            (2, 3, 0),
+        ),
+        (
+            "redwork 3\ncolor 1\nline 0 0 9 0 9 9\nline 9 -9 9 0\nend 9 0\n",
+            (2, 3, 1),
+        ),
     ];
     for (text, (drawn, joined, ends)) in table {
         let read = with_lines(rt.alloc(), text.as_bytes()).ok_or("lines")?;
