@@ -1,13 +1,12 @@
-use Rattle.stitch_cli.proofs.SewingLemmas.{penetrations_few, pieces_few, sewn_by_route}
+use Rattle.stitch_cli.proofs.SewingLemmas.{penetrations_few, pieces_few}
 use Rattle.stitch_cli.proofs.SampleLemmas.{sample_makes}
 use Rattle.stitch_cli.proofs.sampling.reported.Goals as goal
 
 pub summary_of-requires : goal.summary_of-requires
 summary_of-requires c = rw (c.as_slice-2.ensures, c.as_slice-3.ensures) (record {
   blocks = c.in_ok-pieces.ensures.blocks;
-  most = pieces_few _ _ _ _ _ c.as_slice.ensures (sewn_by_route _ _ _ c.in_ok-routed.ensures);
-  few = penetrations_few _ _ _ _ c.in_ok-pieces.ensures.cut
-      (sewn_by_route _ _ _ (rw c.as_slice.ensures at c.in_ok-routed.ensures));
+  most = pieces_few _ _ _ _ _ c.as_slice.ensures c.in_ok-routed.ensures;
+  few = penetrations_few _ _ _ _ c.in_ok-pieces.ensures.cut (rw c.as_slice.ensures at c.in_ok-routed.ensures);
 })
 
 pub returns : goal.returns
