@@ -19,7 +19,7 @@ use format_traits::{Format, WriteFault, encode_by, ext_of, find, limit_of};
 use line_graph::{Drawing, pieces, runs_are_sewn};
 use outside_io::Store;
 use program_inputs::{drawing_in, format_at};
-use program_shell::{Failure, Made, Output, Product, refusal, two_outputs};
+use program_shell::{Failure, Made, Output, Product, text_bytes, two_outputs};
 use program_texts::describe_step;
 use route_core::{Routed, sew_pieces};
 use route_texts::describe_sewing;
@@ -90,7 +90,7 @@ fn sew_drawing<'a>(
     let limit = limit_of(format);
     if limit < step {
         let text = describe_step(alloc, names.drawing, step, limit, ext_of(format))?;
-        return Err(refusal(text));
+        return Err(Failure::Refused(text_bytes(text)));
     }
     let product = sewn(alloc, way, names, format, drawing)?;
     Ok(product)
