@@ -15,6 +15,12 @@ DEBIAN_ZSH = share/zsh/vendor-completions
 DOC = share/doc/stitch
 MAINTAINER = Kaouzbrel maintainers <maintainers@users.noreply.kaouzbrel.example>
 
+# The extension of Inkscape: its files, the folder $(1) that they are copied to, and the folders $(2) of the programs for it.
+# Inkscape reads extensions in its own data folder and in that of the user.
+EXTENSION = $(wildcard inkscape/*.inx inkscape/*.py) examples/svg_drawing.py examples/svg_strokes.py examples/svg_style.py
+extend = install -d "$(1)" && install -m 644 $(EXTENSION) "$(1)" && printf '%s\n' $(2) > "$(1)/folders.txt"
+DIR ?= $(shell inkscape --user-data-directory 2> /dev/null)/extensions
+
 # What the tar file and the folder in it are called, and the folder from which the Debian package is made.
 BUNDLE = stitch-$(VERSION)-$(shell uname -m)
 TREE = out/package/debian
@@ -35,17 +41,25 @@ install -m 644 README.md CHANGELOG.md $(1)/$(DOC)
 install -m 644 docs/*.md docs/*.svg $(1)/$(DOC)/docs
 endef
 
-.PHONY: build built cleared debian help install package tar test uninstall version
+.PHONY: build built cleared debian help inkscape install package tar test uninstall version
 build: ## prove and build the programs, in one run of the gate
 	./build
 
 install: built ## install them with manuals, completions and documents below PREFIX, /usr/local if not given
 	$(call copy,$(DESTDIR)$(PREFIX),$(ZSH))
+	@case $$(inkscape --system-data-directory 2> /dev/null) in $(PREFIX)/*) \
+		$(call extend,$(DESTDIR)$$(inkscape --system-data-directory 2> /dev/null)/extensions/redwork,$(PREFIX)/bin) ;; esac
+
+inkscape: ## install the extension of Inkscape into the folder DIR, that of your own extensions if not given
+	@[ '$(DIR)' != /extensions ] || { echo "make: there is no inkscape: name its folder of extensions, as DIR=FOLDER" >&2; exit 1; }
+	$(call extend,$(DIR)/redwork,$(abspath $(dir $(PROGRAMS))))
 
 uninstall: ## remove what install installed
 	rm -f $(addprefix $(DESTDIR)$(PREFIX)/,$(NAMES:%=bin/%) $(NAMES:%=share/man/man1/%.1) $(NAMES:%=$(BASH)/%))
 	rm -f $(addprefix $(DESTDIR)$(PREFIX)/,$(NAMES:%=$(ZSH)/_%) $(NAMES:%=$(FISH)/%.fish))
 	rm -rf $(DESTDIR)$(PREFIX)/$(DOC)
+	@case $$(inkscape --system-data-directory 2> /dev/null) in $(PREFIX)/*) \
+		rm -rf "$(DESTDIR)$$(inkscape --system-data-directory 2> /dev/null)/extensions/redwork" ;; esac
 
 package: tar $(if $(shell command -v dpkg-deb),debian) ## write a tar file and, with dpkg-deb, a Debian package to out/, for users without the kit
 	rm -rf out/package

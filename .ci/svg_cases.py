@@ -12,6 +12,7 @@ import traceback
 HOME, FOLDER = os.path.dirname(os.path.dirname(os.path.abspath(__file__))), sys.argv[1]
 sys.path.insert(0, os.path.join(HOME, "examples"))
 import from_svg  # noqa: E402
+import svg_drawing  # noqa: E402
 import svg_style  # noqa: E402
 
 HEAD = ('<svg xmlns="http://www.w3.org/2000/svg" xmlns:xlink="http://www.w3.org/1999/xlink" '
@@ -154,9 +155,9 @@ reports(["#ff0000 thread 28 Vermilion", "#000000 thread 20 Black", "#a01818 thre
             "#f00 black rgb(255,0,0) red #a01818 rgb(100%,0%,0%) hsl(0,100%,50%)".split())))
 draws(["color 28", "0 0 20 0", "0 20 20 20", "color 20", "0 10 20 10"],
       '<path stroke="#f00" d="M0 0h2"/><path d="M0 1h2"/><path stroke="rgb(255 0 0 / 1)" d="M0 2h2"/>')
-for number, thread in enumerate(from_svg.THREADS, 1):
-    if from_svg.thread_of(bytes.fromhex(thread[:6]))[0] != number:
-        wrong(thread, number, from_svg.thread_of(bytes.fromhex(thread[:6])))
+for number, thread in enumerate(svg_drawing.THREADS, 1):
+    if svg_drawing.thread_of(bytes.fromhex(thread[:6]))[0] != number:
+        wrong(thread, number, svg_drawing.thread_of(bytes.fromhex(thread[:6])))
 
 # what is left out, and counted
 LEFT = "".join((
@@ -271,7 +272,7 @@ for within, apart in ((0.1, 0.5), (0.08, 0.3), (0.3, 2.5)):
         _, lines, report, _ = made(page(inside), f"--within={within}", f"--apart={apart}")
         numbers = [int(word) for word in lines[1].split()[1:]]
         points = [complex(x, y) for x, y in zip(numbers[::2], numbers[1::2])]
-        far = max(min(from_svg.beside(10 * complex(*true(math.tau * k / 399)), a, b) for a, b in zip(points, points[1:]))
+        far = max(min(svg_drawing.beside(10 * complex(*true(math.tau * k / 399)), a, b) for a, b in zip(points, points[1:]))
                   for k in range(400))
         gap = max(abs(b - a) for a, b in zip(points, points[1:]))
         if far > 10 * within or gap > 10 * apart:
@@ -347,7 +348,7 @@ def same(one, other):
             elif words[0] == "line":
                 yield thread, [complex(int(x), int(y)) for x, y in zip(words[1::2], words[2::2])]
     other = list(lines(other))
-    return all(min((from_svg.beside(point, a, b) for t, line in other if t == thread for a, b in zip(line, line[1:])),
+    return all(min((svg_drawing.beside(point, a, b) for t, line in other if t == thread for a, b in zip(line, line[1:])),
                    default=9) <= 1 for thread, points in lines(one) for point in points)
 
 

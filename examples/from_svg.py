@@ -13,257 +13,24 @@ STEP is the longest stitch in tenths of a millimetre, 25 without it. OUT.rw may 
 Threads, size, middle and what is left out are reported on the standard error.
 Status 0: written, 1: refused, nothing is written, 2: wrong arguments, or svgelements is missing.
 """
-import math
 import os
 import re
 import sys
 import xml.etree.ElementTree as ElementTree
-from bisect import bisect_left
-from collections import Counter
-from itertools import accumulate
 
 sys.dont_write_bytecode = True
 try:
-    from svg_strokes import Reader, Refused, TooMuch, kind_of, plain
+    import svg_by_svgelements as library
+    from svg_drawing import drawing
+    from svg_strokes import TooMuch, plain
+    from svg_style import Refused
 except ImportError as why:
-    Reader, MISSING = None, why.name
+    library, MISSING = None, why.name
 
 # The python3 of Debian, which sees Debian's packages.
 DEBIAN = "/usr/bin/python3"
 # The least and the greatest value of each option.
 RANGES = {"--step": (1, 2047), "--within": (0.08, 10), "--apart": (0.3, 10), "--width": (1, 60000)}
-# The greatest distance of a curve from its samples, in tenths of a millimetre.
-SAMPLED = 0.04
-LINES, POINTS, STEPS, REACH, BLOCKS = 1024, 65536, 200000, 30000, 255
-TOO_MANY = f"more than {POINTS} points: take --apart=1, or divide the drawing"
-THREADS = """0e1f7c Prussian Blue,0a55a3 Blue,008777 Teal Green,4b6baf Cornflower Blue,ed171f Red,d15c00 Reddish Brown,
-913697 Magenta,e49acb Light Lilac,915fac Lilac,9ed67d Mint Green,e8a900 Deep Gold,feba35 Orange,ffff00 Yellow,70bc1f Lime Green,
-ba9800 Brass,a8a8a8 Silver,7d6f00 Russet Brown,ffffb3 Cream Brown,4f5556 Pewter,000000 Black,0b3d91 Ultramarine,
-770176 Royal Purple,293133 Dark Gray,2a1301 Dark Brown,f64a8a Deep Rose,b27624 Light Brown,fcbbc5 Salmon Pink,fe370f Vermilion,
-f0f0f0 White,6a1c8a Violet,a8ddc4 Seacrest,2584bb Sky Blue,feb343 Pumpkin,fff36b Cream Yellow,d0a660 Khaki,d15400 Clay Brown,
-66ba49 Leaf Green,134a46 Peacock Blue,878787 Gray,d8ccc6 Warm Gray,435607 Dark Olive,fdd9de Flesh Pink,f993bc Pink,
-003822 Deep Green,b2afd4 Lavender,686ab0 Wisteria Violet,efe3b9 Beige,f73866 Carmine,b54b64 Amber Red,132b1a Olive Green,
-c70156 Dark Fuchsia,fe9e32 Tangerine,a8deeb Light Blue,00673e Emerald Green,4e2990 Purple,2f7e20 Moss Green,ffcccc Flesh Pink,
-ffd911 Harvest Gold,095ba6 Electric Blue,f0f970 Lemon Yellow,e3f35b Fresh Green,ff9900 Orange,fff08d Cream Yellow,
-ffc8c8 Applique""".replace("\n", "").split(",")
-
-
-def title_of(root):
-    """The title of a document as a label of at most 16 bytes without spaces."""
-    title = next((child for child in root if kind_of(child) == "title"), None)
-    return plain("".join(title.itertext()) if title is not None else "").replace(" ", "-")[:16].rstrip("-")
-
-
-def cut_at(curve, t):
-    """The two parts of a cubic curve."""
-    a, b, c, d = curve
-    ab, bc, cd = a + t * (b - a), b + t * (c - b), c + t * (d - c)
-    abc, bcd = ab + t * (bc - ab), bc + t * (cd - bc)
-    middle = abc + t * (bcd - abc)
-    return (a, ab, abc, middle), (middle, bcd, cd, d)
-
-
-def turns(p, q, r, s):
-    """Where a cubic polynomial, given by its four Bezier numbers, turns between 0 and 1."""
-    a, b, c = s - 3 * r + 3 * q - p, 2 * (r - 2 * q + p), q - p
-    root = math.sqrt(max(b * b - 4 * a * c, 0))
-    under = -(b + math.copysign(root, b)) / 2
-    return [t for t in ((under / a) if a else 0, (c / under) if under else 0) if 1e-6 < t < 1 - 1e-6]
-
-
-def at_extremes(pieces, wanted=lambda point: True):
-    """The pieces of a line with its curves cut where x or y turns, at the points that are wanted."""
-    made = []
-    for piece in pieces:
-        done, curve = 0.0, piece if len(piece) == 4 else (0, 0, 0, 0)
-        for t in sorted(set(turns(*(p.real for p in curve)) + turns(*(p.imag for p in curve)))):
-            first, rest = cut_at(piece, (t - done) / (1 - done))
-            if wanted(rest[0]):
-                made, piece, done = made + [first], rest, t
-        made.append(piece)
-    return made
-
-
-def rounded(point):
-    """The nearest whole numbers. What differs by less than a millionth rounds alike, so that clones meet."""
-    return math.floor(round(point.real, 6) + 0.5), math.floor(round(point.imag, 6) + 0.5)
-
-
-def samples(curve):
-    """Points of a cubic curve, half a tenth of a millimetre apart at most; the curve is within SAMPLED of their chords."""
-    a, b, c, d = curve
-    speed, bend = 6 * max(abs(b - a), abs(c - b), abs(d - c)), 6 * max(abs(a - 2 * b + c), abs(b - 2 * c + d))
-    count = max(1, math.ceil(speed), math.ceil(math.sqrt(bend / 8 / SAMPLED)))
-    parts = ((k / count, 1 - k / count) for k in range(1, count))
-    return [a, *(u * u * u * a + 3 * u * u * t * b + 3 * u * t * t * c + t * t * t * d for t, u in parts), d]
-
-
-def beside(point, a, b):
-    """The distance of a point from the segment of two others."""
-    along, to = b - a, point - a
-    part = (to.real * along.real + to.imag * along.imag) / abs(along) ** 2 if a != b else 0
-    return abs(to - min(max(part, 0), 1) * along)
-
-
-def curve_points(curve, within, apart):
-    """The points of a curve after its first: as few as fit, spaced evenly, and closer at a sharp bend."""
-    passed = samples(curve)
-    way = [0.0, *accumulate(abs(b - a) for a, b in zip(passed, passed[1:]))]
-
-    def fits(first, last):
-        a, b = complex(*rounded(passed[first])), complex(*rounded(passed[last]))
-        return last - first < 2 or abs(b - a) <= apart and all(
-            beside(one, a, b) <= within - SAMPLED for one in passed[first + 1:last])
-
-    def cut(first, last):
-        middle = (first + last) // 2
-        return [last] if fits(first, last) else cut(first, middle) + cut(middle, last)
-
-    def pick(k):
-        return bisect_left(way, way[-1] * k / count) if k < count else len(passed) - 1
-
-    count = least = max(1, math.ceil(way[-1] / apart))
-    while count < least + least // 4 + 2 and not all(fits(pick(k), pick(k + 1)) for k in range(count)):
-        count += 1 + count // 1000
-    return [rounded(passed[at]) for k in range(count) for at in cut(pick(k), pick(k + 1))]
-
-
-def points_of(pieces, within, apart):
-    """The whole points of a line, no two neighbours alike."""
-    points = [rounded(pieces[0][0])]
-    for piece in pieces:
-        for point in curve_points(piece, within, apart) if len(piece) == 4 else [rounded(piece[1])]:
-            if point != points[-1]:
-                points.append(point)
-        if len(points) > POINTS:
-            raise Refused(TOO_MANY)
-    return points
-
-
-def scaled(blocks, width):
-    """The lines, cut where they reach the edges of the drawing, and as wide as requested. Left and upper edge stay."""
-    pieces = [piece for lines in blocks.values() for _, line in lines for piece in at_extremes(line)]
-    xs, ys = zip(*((end.real, end.imag) for piece in pieces for end in (piece[0], piece[-1])))
-    (left, top), across, down = (min(xs), min(ys)), max(xs) - min(xs), max(ys) - min(ys)
-    if width and across < 0.5:
-        raise Refused("the drawing has no width, so --width can't scale it")
-    by, corner = (width / across, complex(left, top)) if width else (1, 0)
-    if max(across, down) * by > 2 * REACH + 1:
-        raise Refused(f"the drawing is {max(across, down) * by:.0f} tenths of a millimetre large, more than {2 * REACH}: "
-                      "scale it in the editor, or take --width=N")
-    stay, near = complex(*rounded(corner)), 1e-6 * max(across, down)
-
-    def is_edge(point):
-        x, y = point.real - left, point.imag - top
-        return min(abs(x), abs(across - x), abs(y), abs(down - y)) <= near
-
-    return {colour: [(label, [tuple((point - corner) * by + stay for point in piece) for piece in at_extremes(line, is_edge)])
-                     for label, line in lines] for colour, lines in blocks.items()}
-
-
-def centred(blocks, centre):
-    """The lines of whole points, moved where requested; and the report on their size and middle."""
-    xs, ys = zip(*(point for lines in blocks.values() for _, points in lines for point in points))
-    x, y = (min(xs) + max(xs)) // 2, (min(ys) + max(ys)) // 2
-    size = f"size {max(xs) - min(xs)} {max(ys) - min(ys)} middle "
-    if not centre:
-        return blocks, size + f"{x} {y}"
-    return {colour: [(label, [(a - x, b - y) for a, b in points]) for label, points in lines]
-            for colour, lines in blocks.items()}, size + "0 0"
-
-
-def check_limits(blocks, step):
-    """Refuses what a drawing can't hold."""
-    lines = [points for block in blocks.values() for _, points in block]
-    cuts = 0
-    for block in blocks.values():
-        listed = Counter(point for _, points in block for point in points)
-        cuts += sum(listed[point] > 1 for _, points in block for point in points[1:-1])
-    steps = sum(-(-max(abs(a - c), abs(b - d)) // step) for points in lines for (a, b), (c, d) in zip(points, points[1:]))
-    reach = max(abs(number) for points in lines for point in points for number in point)
-    for count, limit, what in (
-            (len(blocks), BLOCKS, "colours: give lines the same one"),
-            (len(lines), LINES, "lines: join their ends (Node > Join), or divide the drawing"),
-            (len(lines) + cuts, LINES, "lines, counted from meeting to meeting: divide the drawing"),
-            (sum(map(len, lines)) + cuts, POINTS, "points: take --apart=1, or divide the drawing"),
-            (steps, STEPS, "steps: take a longer STEP, or divide the drawing"),
-            (reach, REACH, "tenths of a millimetre from 0 0: take --centre, or --width=N")):
-        if count > limit:
-            raise Refused(f"{count} {what}; a drawing has at most {limit}")
-
-
-def lab(colour):
-    """Lightness, green to red and blue to yellow of a colour (CIE 1976, daylight D65)."""
-    r, g, b = (part / 3294.6 if part <= 10 else ((part / 255 + 0.055) / 1.055) ** 2.4 for part in colour)
-    x, y, z = ((part ** (1 / 3) if part > 216 / 24389 else part * 841 / 108 + 4 / 29) for part in (
-        0.4339 * r + 0.3762 * g + 0.1899 * b, 0.2126 * r + 0.7152 * g + 0.0722 * b, 0.0178 * r + 0.1095 * g + 0.8727 * b))
-    return 116 * y - 16, 500 * (x - y), 200 * (y - z)
-
-
-def thread_of(colour):
-    """The number and the name of the nearest thread, by the distance CIE94."""
-    def distance(thread):
-        (l, a, b), (m, c, d) = lab(colour), lab(bytes.fromhex(thread[:6]))
-        chroma = math.hypot(a, b)
-        more = chroma - math.hypot(c, d)
-        hue = max((a - c) ** 2 + (b - d) ** 2 - more * more, 0)
-        return (l - m) ** 2 + (more / (1 + 0.045 * chroma)) ** 2 + hue / (1 + 0.015 * chroma) ** 2
-    best = min(range(64), key=lambda k: distance(THREADS[k]))
-    return best + 1, THREADS[best][7:]
-
-
-def whole_lines(reader, width, within, apart):
-    """The lines of whole points by colour. Those of a single point are counted."""
-    drawn = scaled(reader.blocks, width) if any(reader.blocks.values()) else {}
-    curves = [piece for lines in drawn.values() for _, line in lines for piece in line if len(piece) == 4]
-    if sum(abs(curve[3] - curve[0]) for curve in curves) > POINTS * 10 * apart:
-        raise Refused(TOO_MANY)
-    blocks, total = {}, 0
-    for colour, lines in drawn.items():
-        for label, line in lines:
-            points = points_of(line, 10 * within, 10 * apart)
-            total += len(points)
-            if total > POINTS:
-                raise Refused(TOO_MANY)
-            if len(points) > 1:
-                blocks.setdefault(colour, []).append((label, points))
-            else:
-                reader.left_out["of a single point"] += 1
-    return blocks
-
-
-def text_of(blocks, title, step):
-    """The text of a drawing, with a comment before each block, and before the lines of each label."""
-    text = ["redwork 2"] + [f"name {title}"] * bool(title) + [f"step {step}"]
-    for colour, lines in blocks.items():
-        text += [f"# {thread_line(colour)}", f"color {thread_of(colour)[0]}"]
-        for k, (label, points) in enumerate(lines):
-            if label and (k == 0 or label != lines[k - 1][0]):
-                text.append(f"# {label}")
-            text.append("line " + " ".join(f"{x} {y}" for x, y in points))
-    return "\n".join(text) + "\n"
-
-
-def thread_line(colour):
-    """A colour and its thread, as they are reported."""
-    number, name = thread_of(colour)
-    return f"#{bytes(colour).hex()} thread {number} {name}"
-
-
-def drawing(root, step=25, within=0.1, apart=0.5, width=None, centre=False, skip=False):
-    """The text of a document's drawing, and the report. Lengths are mm, but for step and width: tenths."""
-    if kind_of(root) != "svg":
-        raise Refused("not an SVG file")
-    reader = Reader(root)
-    blocks = {} if reader.faults and not skip else whole_lines(reader, width, within, apart)
-    left_out = ", ".join(f"{count} {what}" for what, count in reader.left_out.items() if count)
-    if not blocks:
-        raise Refused("\n".join(reader.faults) or "nothing is drawn with a stroke" + f"; left out: {left_out}" * bool(left_out))
-    blocks, size = centred(blocks, centre)
-    check_limits(blocks, step)
-    report = [thread_line(colour) for colour in blocks] + reader.notes * (width is None)
-    report += [f"left out: {what}" for what in (*reader.faults, left_out) if what] + [size]
-    return text_of(blocks, title_of(root), step), report
 
 
 def options_of(words):
@@ -317,9 +84,9 @@ def run(words):
     try:
         if out != "-" and os.path.exists(out) and os.path.exists(name) and os.path.samefile(name, out):
             raise Refused("the drawing would replace it: name another file")
-        text, report = drawing(read(name), **options)
-        write(out, text)
-        return 0, report
+        made = drawing(read(name), library, **options)
+        write(out, made.text)
+        return 0, made.report
     except (Refused, TooMuch) as why:
         return 1, [f"from_svg.py: {plain(name)}: {line}" for line in str(why).split("\n")]
     except (RecursionError, MemoryError):
@@ -328,7 +95,7 @@ def run(words):
 
 def main(words):
     """Runs the script, by Debian's python3 where this one lacks the library, and reports."""
-    if Reader is None:
+    if library is None:
         if sys.executable != DEBIAN and os.access(DEBIAN, os.X_OK):
             os.execv(DEBIAN, [DEBIAN, __file__, *words])
         print("from_svg.py: it needs svgelements: sudo apt install python3-svgelements" if MISSING == "svgelements" else

@@ -1,8 +1,8 @@
-"""The visible strokes of an SVG file, for from_svg.py: their colours, and their lines in tenths of a millimetre.
+"""The visible strokes of an SVG file: their colours, and their lines in tenths of a millimetre.
 
-Paths, arcs, transforms and the names of colours are read by svgelements. It passes over what it can't read, so the syntax
-is checked before. Its own walk over a document draws symbols that nothing refers to and passes over their viewBox, so the
-elements are walked over here.
+Paths, arcs, transforms and the names of colours are read by a library: svg_by_svgelements.py, or svg_by_inkex.py in Inkscape.
+A library passes over what it can't read, so the syntax is checked before. The walk over a document of svgelements draws
+symbols that nothing refers to and passes over their viewBox, so the elements are walked over here.
 """
 import math
 import re
@@ -11,7 +11,6 @@ from collections import Counter
 from typing import NamedTuple
 
 from svg_style import INHERITED, NUMBER, Refused, is_clear, kind_of, number, painted, style_of, style_rules
-from svgelements import Arc, Close, CubicBezier, Ellipse, Matrix, Move, Path, QuadraticBezier, Rect
 
 XLINK = "{http://www.w3.org/1999/xlink}"
 LABEL = "{http://www.inkscape.org/namespaces/inkscape}label"
@@ -31,12 +30,33 @@ TRANSFORMS = {"matrix": (6,), "translate": (1, 2), "scale": (1, 2), "rotate": (1
 # The numbers (n) and flags (f) after each letter of a path.
 COMMANDS = {"m": "nn", "z": "", "l": "nn", "h": "n", "v": "n", "c": "nnnnnn", "s": "nnnn", "q": "nnnn", "t": "nn",
             "a": "nnnffnn"}
+# The ids of the layers that the extension of Inkscape shows results on.
+SHOWN = {"redwork-look", "redwork-route"}
 # The greatest number of elements, each counted as often as it is cloned.
 ELEMENTS = 20000
 
 
 class TooMuch(Exception):
     """What no drawing could hold."""
+
+
+class Matrix(NamedTuple):
+    """An affine map of points: x becomes a x + c y + e, and y becomes b x + d y + f."""
+    a: float = 1
+    b: float = 0
+    c: float = 0
+    d: float = 1
+    e: float = 0
+    f: float = 0
+
+    def of(self, x, y):
+        """What a point becomes."""
+        return self.a * x + self.c * y + self.e, self.b * x + self.d * y + self.f
+
+    def then(self, outer):
+        """This map followed by another."""
+        (e, f), (a, b), (c, d) = outer.of(self.e, self.f), outer.of(self.a, self.b), outer.of(self.c, self.d)
+        return Matrix(a - outer.e, b - outer.f, c - outer.e, d - outer.f, e, f)
 
 
 class Place(NamedTuple):
@@ -69,7 +89,7 @@ def length(element, name, default, whole):
     return found
 
 
-def transform_of(text):
+def transform_of(text, library):
     """The matrix of a transform, whose first call is the outermost."""
     matrix = Matrix()
     for call in re.split(r"(?<=\))[\s,]*", text.strip()):
@@ -77,7 +97,7 @@ def transform_of(text):
         numbers = [number(word) for word in re.split(r"\s*,\s*|\s+", found[2].strip())] if found else []
         if call and (not found or len(numbers) not in TRANSFORMS.get(found[1], ()) or None in numbers):
             raise Refused(f"transform {call!r} can't be read")
-        matrix = Matrix(f"{found[1]}({','.join(map(repr, numbers))})") * matrix if call else matrix
+        matrix = Matrix(*library.matrix_of(f"{found[1]}({','.join(map(repr, numbers))})")).then(matrix) if call else matrix
     return matrix
 
 
@@ -104,12 +124,13 @@ def fitted(element, x, y, width, height, box):
                   y - box[1] * low + part.get(down, 0.5) * (height - box[3] * low))
 
 
-def path_of(text):
-    """The library's path of a text of letters with their numbers. The library stops at a fault without a word."""
+def checked_path(text):
+    """The number of a path's parts, and its text with a space between all letters and numbers. A fault is refused."""
     at, kind, parts, words = 0, "", 0, {"n": re.compile(NUMBER), "f": re.compile("[01]")}
-    gap = re.compile("[ \t\r\n\f,]*")
+    gap, made = re.compile("[ \t\r\n\f,]*"), []
     while (at := gap.match(text, at).end()) < len(text):
         if text[at] in "mzlhvcsqtaMZLHVCSQTA":
+            made.append(text[at])
             kind, at = text[at].lower(), at + 1
         elif kind == "z":
             kind = ""
@@ -118,31 +139,37 @@ def path_of(text):
             found = form != "?" and words[form].match(text, at)
             if not found:
                 raise Refused(f"its path can't be read at character {at + 1}, {text[at:at + 12]!r}")
+            made.append(found[0])
             at = found.end()
         parts += 1
-    path = Path(text)
-    if len(path) != parts:
-        raise Refused("its path can't be read: simplify it (Path > Simplify)")
-    return path
+    return parts, " ".join(made)
 
 
 def rectangle(x, y, width, height, rx, ry):
-    """The library's path of a rectangle; a radius that isn't given is None."""
+    """The path of a rectangle; a radius that isn't given is None."""
     rx, ry = min((ry if rx is None else rx) or 0, width / 2), min((rx if ry is None else ry) or 0, height / 2)
     if min(width, height, rx, ry) < 0:
         raise Refused("a negative size")
-    return Path(Rect(x, y, width, height, rx if ry else 0, ry if rx else 0)) if width and height else Path()
+    if not width or not height:
+        return ""
+    right, low = x + width, y + height
+    if not rx or not ry:
+        return f"M{x!r},{y!r} H{right!r} V{low!r} H{x!r} z"
+    arc = f"A{rx!r},{ry!r} 0 0 1"
+    return (f"M{x + rx!r},{y!r} H{right - rx!r} {arc} {right!r},{y + ry!r} V{low - ry!r} {arc} {right - rx!r},{low!r} "
+            f"H{x + rx!r} {arc} {x!r},{low - ry!r} V{y + ry!r} {arc} {x + rx!r},{y!r} z")
 
 
 def ellipse(x, y, rx, ry):
-    """The library's path of an ellipse."""
+    """The path of an ellipse."""
     if min(rx, ry) < 0:
         raise Refused("a negative radius")
-    return Path(Ellipse(x, y, rx, ry)) if rx and ry else Path()
+    ends = ((x, y + ry), (x - rx, y), (x, y - ry), (x + rx, y))
+    return f"M{x + rx!r},{y!r} " + "".join(f"A{rx!r},{ry!r} 0 0 1 {a!r},{b!r} " for a, b in ends) + "z" if rx and ry else ""
 
 
 def shape_path(kind, element, size):
-    """The library's path of a shape, in its own units."""
+    """The path of a shape, in its own units."""
     whole = dict(zip("xy", size), r=None if None in size else math.hypot(*size) / math.sqrt(2))
     at = {name: None if kind == "rect" and element.get(name, "auto" if name[0] == "r" else "0").strip() == "auto"
           else length(element, name, "0", whole[axis]) for name, axis in LENGTHS.get(kind, {}).items()}
@@ -151,40 +178,23 @@ def shape_path(kind, element, size):
     if kind in ("circle", "ellipse"):
         return ellipse(at["cx"], at["cy"], at.get("r", at.get("rx")), at.get("r", at.get("ry")))
     if kind == "line":
-        return Path(f"M{at['x1']!r},{at['y1']!r} {at['x2']!r},{at['y2']!r}")
+        return f"M{at['x1']!r},{at['y1']!r} {at['x2']!r},{at['y2']!r}"
     points = element.get("points", "").strip()
-    text = element.get("d", "") if kind == "path" else f"M{points}{'z' * (kind == 'polygon')}" if points else ""
-    return path_of(text)
+    return element.get("d", "") if kind == "path" else f"M{points}{'z' * (kind == 'polygon')}" if points else ""
 
 
-def lines_of(path, matrix):
+def lines_of(text, matrix, library):
     """The lines of a path in tenths of a millimetre: lists of pieces, each two points, or the four of a cubic curve."""
-    lines, going = [], False
-    for part in path:
-        if isinstance(part, Move):
-            going = False
-            continue
-        a, b = complex(*part.start), complex(*part.end)
-        pieces = [(a, b)]
-        if isinstance(part, CubicBezier):
-            pieces = [(a, complex(*part.control1), complex(*part.control2), b)]
-        elif isinstance(part, QuadraticBezier):
-            c = complex(*part.control)
-            pieces = [(a, (a + 2 * c) / 3, (b + 2 * c) / 3, b)]
-        elif isinstance(part, Arc) and part.rx and part.ry and a != b:
-            count = math.ceil(abs(part.sweep) / (math.tau / 32))
-            pieces = [tuple(complex(*point) for point in curve) for curve in part.as_cubic_curves(count)] or pieces
-        if not going:
-            lines.append([])
-        lines[-1] += [tuple(moved(matrix, point) for point in piece) for piece in pieces]
-        going = not isinstance(part, Close)
-    return lines
+    wanted, text = checked_path(text)
+    parts, lines = library.lines_of(text)
+    if parts != wanted:
+        raise Refused("its path can't be read: simplify it (Path > Simplify)")
+    return [[tuple(moved(matrix, point) for point in piece) for piece in line] for line in lines]
 
 
 def moved(matrix, point):
     """A point in tenths of a millimetre, from one in the units of a shape."""
-    x = PX * (matrix.a * point.real + matrix.c * point.imag + matrix.e)
-    y = PX * (matrix.b * point.real + matrix.d * point.imag + matrix.f)
+    x, y = (PX * part for part in matrix.of(point.real, point.imag))
     if not abs(x) + abs(y) < 1e9:
         raise Refused("its numbers are too large")
     return complex(x, y)
@@ -193,12 +203,12 @@ def moved(matrix, point):
 class Reader:
     """Collects the lines of a document's visible strokes by colour, counts what is left out, and lists what isn't a line."""
 
-    def __init__(self, root):
+    def __init__(self, root, library):
         self.by_id, self.parents = {}, {child: element for element in root.iter() for child in element}
         for element in root.iter():
             self.by_id.setdefault(element.get("id"), element)
         self.rules, self.faults, self.left_out, self.visits = style_rules(root), [], Counter(), 0
-        self.blocks, self.notes = {}, []
+        self.blocks, self.notes, self.library, self.page = {}, [], library, Matrix()
         self.visit(root, Place(Matrix(), dict(INHERITED)))
 
     def visit(self, element, place, clone=None):
@@ -207,7 +217,7 @@ class Reader:
         self.visits += 1
         if self.visits > ELEMENTS:
             raise TooMuch(f"more than {ELEMENTS} elements with those of clones: unlink or delete some")
-        if not kind or kind in PASSED and not (kind == "symbol" and clone is not None):
+        if not kind or element.get("id") in SHOWN or kind in PASSED and not (kind == "symbol" and clone is not None):
             return
         try:
             place = self.inside(kind, element, place, clone)
@@ -248,7 +258,7 @@ class Reader:
             raise Refused(f"its style has {style['moves']!r}, which isn't read: simplify it (Path > Simplify)")
         if style["clip-path"] != "none" or style["mask"] != "none":
             raise Refused("it is clipped or masked: release that (Object > Clip or Mask > Release)")
-        matrix = transform_of(element.get("transform", "")) * place.matrix
+        matrix = transform_of(element.get("transform", ""), self.library).then(place.matrix)
         label = element.get(LABEL) or element.get("id")
         labels = place.labels + ((label,) if label and kind in SHAPES | {"use"} else ())
         place = place._replace(matrix=matrix, style=style, labels=labels)
@@ -280,10 +290,12 @@ class Reader:
         if any(side is not None and side <= 0 for side in sides):
             raise Refused("its width or height isn't greater than 0")
         if not box:
-            return place._replace(matrix=Matrix(1, 0, 0, 1, x, y) * place.matrix, size=tuple(sides))
+            return place._replace(matrix=Matrix(e=x, f=y).then(place.matrix), size=tuple(sides))
         if None in sides:
             raise Refused("its size is a part of one that isn't given: set width and height of the document")
-        return place._replace(matrix=fitted(element, x, y, *sides, box) * place.matrix, size=tuple(box[2:]))
+        place = place._replace(matrix=fitted(element, x, y, *sides, box).then(place.matrix), size=tuple(box[2:]))
+        self.page = place.matrix if outer else self.page
+        return place
 
     def visit_clone(self, element, place):
         """Reads what a `use` refers to, at its place."""
@@ -294,19 +306,19 @@ class Reader:
         if target in place.uses:
             raise Refused(f"it is a clone of {name!r}, which contains it: unlink it (Edit > Clone > Unlink Clone)")
         x, y = (length(element, axis, "0", whole) for axis, whole in zip("xy", place.size))
-        place = place._replace(matrix=Matrix(1, 0, 0, 1, x, y) * place.matrix, uses=place.uses + (target,))
+        place = place._replace(matrix=Matrix(e=x, f=y).then(place.matrix), uses=place.uses + (target,))
         self.visit(target, place, element)
 
     def draw(self, kind, element, place):
         """Adds the lines of a shape to the block of its colour."""
         style = place.style
-        stroke = "transparent" if is_clear(style["stroke-width"].rstrip("px")) else painted(style, "stroke")
+        stroke = "transparent" if is_clear(style["stroke-width"].rstrip("px")) else painted(style, "stroke", self.library)
         if isinstance(stroke, tuple):
-            lines = lines_of(shape_path(kind, element, place.size), place.matrix)
+            lines = lines_of(shape_path(kind, element, place.size), place.matrix, self.library)
             label = plain("/".join(place.labels))
             self.left_out["empty"] += not lines
             self.blocks.setdefault(stroke, []).extend((label, line) for line in lines)
-        elif kind != "line" and (style["fill"].startswith("url(") or isinstance(painted(style, "fill"), tuple)):
+        elif kind != "line" and (style["fill"].startswith("url(") or isinstance(painted(style, "fill", self.library), tuple)):
             raise Refused("it has a fill and no stroke: give it a stroke (Object > Fill and Stroke), or delete it")
         else:
             self.left_out["transparent" if stroke else "without a stroke"] += 1

@@ -2,8 +2,6 @@
 import colorsys
 import re
 
-from svgelements import Color
-
 SVG = "{http://www.w3.org/2000/svg}"
 NUMBER = r"[-+]?[0-9]*\.?[0-9]+(?:[eE][-+]?[0-9]+)?"
 # Properties that are inherited, those that aren't, and those that would move a shape; with their first values.
@@ -77,35 +75,43 @@ def selects(words, element, parents):
     return not words[:-1] or around is not None
 
 
-def colour_of(text):
-    """Red, green, blue and alpha, each 0 to 255, or None for no colour. The library takes unknown words as black or digits."""
-    text = text.strip().lower()
-    call = re.fullmatch(r"(rgb|hsl)a?\(([^()]*)\)", text)
-    if text == "none" or re.fullmatch(r"#(?:[0-9a-f]{3,4}|[0-9a-f]{6}|[0-9a-f]{8})", text):
-        colour = Color(text)
-    elif call:
-        words = re.split(r"\s*[,/]\s*|\s+", call[2].strip())
-        parts = [number(word.replace("deg", "")) for word in words]
-        if len(parts) not in (3, 4) or None in parts:
-            raise Refused(f"colour {text!r} can't be read")
-        alpha = parts[3] if len(parts) == 4 else 1
-        if call[1] == "hsl":
-            parts = colorsys.hls_to_rgb(parts[0] / 360 % 1, min(max(parts[2], 0), 1), min(max(parts[1], 0), 1))
-        else:
-            parts = [part if "%" in word else part / 255 for part, word in zip(parts, words)]
-        return tuple(int(min(max(part, 0), 1) * 255 + 0.5) for part in (*parts[:3], alpha))
+def function_colour(form, words):
+    """Red, green, blue and alpha, each 0 to 255, of the words in a call of rgb or hsl; None if they can't be read."""
+    parts = [number(word.replace("deg", "")) for word in words]
+    if len(parts) not in (3, 4) or None in parts:
+        return None
+    alpha = parts[3] if len(parts) == 4 else 1
+    if form == "hsl":
+        parts = colorsys.hls_to_rgb(parts[0] / 360 % 1, min(max(parts[2], 0), 1), min(max(parts[1], 0), 1))
     else:
-        colour = Color(text)
-        known = text.isascii() and text.isalpha() and not re.fullmatch("[a-f]+", text)
-        if not known or colour.hex == "#000000" and text != "black":
-            raise Refused(f"colour {text[:40]!r} can't be read: give it a flat colour (Object > Fill and Stroke)")
-    return None if colour.value is None else (colour.red, colour.green, colour.blue, colour.alpha)
+        parts = [part if "%" in word else part / 255 for part, word in zip(parts, words)]
+    return tuple(int(min(max(part, 0), 1) * 255 + 0.5) for part in (*parts[:3], alpha))
 
 
-def painted(style, name):
+def colour_of(text, library):
+    """Red, green, blue and alpha, each 0 to 255, or None for no colour."""
+    text = text.strip().lower()
+    if text in ("none", "transparent"):
+        return None if text == "none" else (0, 0, 0, 0)
+    call = re.fullmatch(r"(rgb|hsl)a?\(([^()]*)\)", text)
+    if call:
+        colour = function_colour(call[1], re.split(r"\s*[,/]\s*|\s+", call[2].strip()))
+        if not colour:
+            raise Refused(f"colour {text!r} can't be read")
+        return colour
+    if re.fullmatch(r"#(?:[0-9a-f]{3,4}|[0-9a-f]{6}|[0-9a-f]{8})", text):
+        digits = text[1:] if len(text) > 5 else "".join(2 * digit for digit in text[1:])
+        return tuple(bytes.fromhex(digits.ljust(8, "f")))
+    colour = library.named_colour(text)
+    if not colour:
+        raise Refused(f"colour {text[:40]!r} can't be read: give it a flat colour (Object > Fill and Stroke)")
+    return (*colour, 255)
+
+
+def painted(style, name, library):
     """The colour of a stroke or a fill, "transparent", or None."""
     text = style["color"] if style[name].lower() == "currentcolor" else style[name]
-    colour = colour_of(text)
+    colour = colour_of(text, library)
     if colour and (not colour[3] or is_clear(style[name + "-opacity"])):
         return "transparent"
     return colour and colour[:3]
