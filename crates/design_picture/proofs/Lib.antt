@@ -2,3 +2,5 @@ pub mod Names
 mod StrokeLemmas
 mod ShownLemmas
 mod PictureFacts
+mod DisplayFacts
+mod WholePictureFacts

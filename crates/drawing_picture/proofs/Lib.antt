@@ -7,3 +7,5 @@ mod FaultLemmas
 mod MarkLemmas
 mod DrawnLemmas
 mod DrawnFacts
+mod WholeDrawingFacts
+mod WholeProofFacts

@@ -1,2 +1,4 @@
 mod TemplateLemmas
 mod PartFacts
+mod ColourFacts
+mod MarkFacts
