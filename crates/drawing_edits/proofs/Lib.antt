@@ -17,3 +17,4 @@ mod EditFacts
 mod PlaceFacts
 mod KeptEndFacts
 mod ValidRedrawFacts
+mod LawFacts

@@ -1,5 +1,5 @@
 -- Worked values of starts put at points, and of pieces put in another order.
-use Rattle.std.proofs.Common.{◌≡◌, ℕ, pos, List, [], ◌∷◌, Ok, Err, true, false, refl}
+use Rattle.std.proofs.Common.{◌≡◌, ℕ, pos, List, [], ◌∷◌, ◌++◌, Ok, Err, true, false, refl}
 use Rattle.drawing_edits.proofs.Names.{Point, DrawingValue, Spot, LineValue, end_placed, order_with_piece, piece_put_before, pieces_in_order}
 use Rattle.line_graph.specs.declared.draw_kind.DrawKind.TheVariants as kind
 use Rattle.drawing_edits.specs.declared.edit_fault.EditFault.TheVariants as fault
@@ -100,3 +100,23 @@ pub known_piece_put_before : (piece_put_before 2 1 squares ≡ Ok (of_lines (squ
     × (piece_put_before 2 2 squares ≡ Err fault.SamePiece)
     × (piece_put_before 3 1 squares ≡ Err fault.OtherBlock)
 known_piece_put_before = (refl, refl, refl, refl, refl)
+
+-- squares of one block, and a line of another block
+abbrev row_of_squares : List LineValue → DrawingValue
+row_of_squares lines = of_lines (lines ++ side ∷ []) [] []
+
+-- the third of three squares comes to just before the second, or before the first, and the first stays first
+pub known_order_of_three : (piece_put_before 3 2 (row_of_squares (square_at 0 5 ∷ square_at 20 25 ∷ square_at 40 45 ∷ []))
+    ≡ Ok (row_of_squares (square_at 0 5 ∷ square_at 40 45 ∷ square_at 20 25 ∷ [])))
+    × (piece_put_before 3 1 (row_of_squares (square_at 0 5 ∷ square_at 20 25 ∷ square_at 40 45 ∷ []))
+    ≡ Ok (row_of_squares (square_at 40 45 ∷ square_at 0 5 ∷ square_at 20 25 ∷ [])))
+    × (piece_put_before 1 3 (row_of_squares (square_at 0 5 ∷ square_at 20 25 ∷ square_at 40 45 ∷ []))
+    ≡ Ok (row_of_squares (square_at 0 5 ∷ square_at 20 25 ∷ square_at 40 45 ∷ [])))
+known_order_of_three = (refl, refl, refl)
+
+-- the second of two numbers has no piece; of two without a piece, or of one given twice, the first is reported
+pub known_no_piece : (piece_put_before 1 4 squares ≡ Err (fault.NoPiece 4)) × (piece_put_before 5 4 squares ≡ Err (fault.NoPiece 5))
+    × (piece_put_before 4 5 squares ≡ Err (fault.NoPiece 4)) × (piece_put_before 4 4 squares ≡ Err (fault.NoPiece 4))
+    -- pieces of two blocks are refused in either order
+    × (piece_put_before 1 3 squares ≡ Err fault.OtherBlock)
+known_no_piece = (refl, refl, refl, refl, refl)

@@ -2,6 +2,7 @@ pub mod Names
 mod SnapFacts
 mod CellFacts
 mod SnapLawFacts
+mod SnapRefusalFacts
 mod EndGroupFacts
 pub mod MoveLemmas
 pub mod CellLemmas

@@ -1,6 +1,7 @@
 pub mod Names
 mod SpacedFacts
 mod SpacedAnswerFacts
+mod SpacingLawFacts
 pub mod JunctionLemmas
 pub mod SpacingLemmas
 pub mod SharedLemmas

@@ -1,6 +1,6 @@
 -- What keeps label and threads, and what does not.
-use Rattle.std.proofs.Common.{◌≡◌, ℕ, ◌<◌, ◌≤◌, true, List, [], ◌∷◌, All, Result, Ok, Err, IsOk, IsOkAnd, codes, refl, arith, subst, sym}
-use Rattle.stitch_text.proofs.Names.{Stitch, Stop, DesignValue, KeepsLimits, origin, ReadFault, Loaded, list_meaning, HasLabelAndThreads, IsTextOf, LabelAndThreadsRoundTrip, NoFloatIsTooLong, ReadsAsWritten, ReadsWhereWritten, list_reads, list_writes, All-cons, All-nil}
+use Rattle.std.proofs.Common.{◌≡◌, ◌≢◌, ◌∙◌, ℕ, ◌+◌, ◌<◌, ◌≤◌, true, List, [], ◌∷◌, All, Result, Ok, Err, IsOk, IsOkAnd, codes, refl, arith, subst, sym}
+use Rattle.stitch_text.proofs.Names.{Stitch, Stop, DesignValue, KeepsLimits, origin, ReadFault, WriteFault, Loaded, acts_of, stops_of, thread_of, list_meaning, HasLabelAndThreads, IsTextOf, LabelAndThreadsRoundTrip, NoFloatIsTooLong, ReadsAsWritten, ReadsWhereWritten, list_reads, list_writes, All-cons, All-nil}
 use Rattle.format_traits.specs.declared.fault.WriteFault.TheVariants as fault
 
 -- the two numbers are not the same
@@ -23,6 +23,32 @@ known_last_thread kept = other (kept.threads 1 (omega arith))
   where
     other : Differ 6 5
     other is = omega (arith, is)
+
+-- three blocks of one stitch in these threads
+abbrev three_blocks : List ℕ → DesignValue
+three_blocks threads =
+    record { label = []; threads = threads; commands = Stitch origin ∷ Stop ∷ Stitch origin ∷ Stop ∷ Stitch origin ∷ [] }
+
+-- the first of three blocks has the thread 9 and no other
+pub refuted_first_thread : HasLabelAndThreads (three_blocks (9 ∷ 5 ∷ 7 ∷ []))
+    (record { design = three_blocks (8 ∷ 5 ∷ 7 ∷ []); ended = true }) → ⊥
+refuted_first_thread kept = other (kept.threads 0 (omega arith))
+  where
+    other : Differ 8 9
+    other is = omega (arith, is)
+
+-- the middle one of three blocks has the thread 5 and no other
+pub refuted_middle_thread : HasLabelAndThreads (three_blocks (9 ∷ 5 ∷ 7 ∷ []))
+    (record { design = three_blocks (9 ∷ 6 ∷ 7 ∷ []); ended = true }) → ⊥
+refuted_middle_thread kept = other (kept.threads 1 (omega arith))
+  where
+    other : Differ 6 5
+    other is = omega (arith, is)
+
+-- no block of a design has the next thread after the design is loaded
+pub refuted_thread : (d : DesignValue) (l : Loaded) → HasLabelAndThreads d l → (block : ℕ) → block ≤ stops_of (acts_of d)
+    → thread_of l.design block ≡ thread_of d block + 1 → ⊥
+refuted_thread d l kept block there is = absurd (omega (arith, is, kept.threads block there))
 
 pub known_other_label : HasLabelAndThreads (design (codes "a") []) (loaded [] []) → ⊥
 known_other_label kept = other kept.label
@@ -69,3 +95,28 @@ pub known_unread : LabelAndThreadsRoundTrip → (d : DesignValue) (text : List �
     → list_reads text ≡ Err why → ⊥
 known_unread law d text why limits threads written unread =
     subst (λ (r : Result Loaded ReadFault). IsOkAnd r (λ loaded. HasLabelAndThreads d loaded)) unread (law d text limits threads written)
+
+-- a list that is read has the label and the threads of its design
+read_again : LabelAndThreadsRoundTrip → (d : DesignValue) (text : List ℕ) (l : Loaded) → KeepsLimits d
+    → All (λ thread. thread < 256) d.threads → list_writes d ≡ Ok text → list_reads text ≡ Ok l → HasLabelAndThreads d l
+read_again law d text l limits threads written read =
+    subst (λ (r : Result Loaded ReadFault). IsOkAnd r (λ loaded. HasLabelAndThreads d loaded)) read (law d text limits threads written)
+
+-- no block of a design has the next thread after its list is read
+pub refuted_read_thread : LabelAndThreadsRoundTrip → (d : DesignValue) (text : List ℕ) (l : Loaded) → KeepsLimits d
+    → All (λ thread. thread < 256) d.threads → list_writes d ≡ Ok text → list_reads text ≡ Ok l
+    → (block : ℕ) → block ≤ stops_of (acts_of d) → thread_of l.design block ≡ thread_of d block + 1 → ⊥
+refuted_read_thread law d text l limits threads written read =
+    refuted_thread d l (read_again law d text l limits threads written read)
+
+-- no list is read with another label than its design has
+pub refuted_read_label : LabelAndThreadsRoundTrip → (d : DesignValue) (text other : List ℕ) (l : Loaded) → KeepsLimits d
+    → All (λ thread. thread < 256) d.threads → list_writes d ≡ Ok text → list_reads text ≡ Ok l
+    → other ≢ d.label → l.design.label ≡ other → ⊥
+refuted_read_label law d text other l limits threads written read differ is =
+    differ (sym is ∙ (read_again law d text l limits threads written read).label)
+
+-- a text is that of no design with another list, or with none
+pub refuted_text : (text : List ℕ) (d : DesignValue) (other : Result (List ℕ) WriteFault) → IsTextOf text d
+    → other ≢ Ok text → list_writes d ≡ other → ⊥
+refuted_text text d other is differ written = differ (sym written ∙ is.written)

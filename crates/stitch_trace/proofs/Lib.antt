@@ -1,5 +1,6 @@
 pub mod Names
 pub mod TraceFacts
+mod LawFacts
 pub mod MoveLemmas
 pub mod StrandLemmas
 pub mod MeasureLemmas
