@@ -764,7 +764,9 @@ row("a cross in versions 1 and 2", {"a.rw": rw(1, *CROSS)},
         2, "step 10", "color 1", "line -10 0 0 0", "line 0 0 10 0", "line 0 10 0 0", "line 0 0 0 -10")}))
 
 row("what a drawing may have between its words", {
-    "a.rw": "#\n\n \t redwork\t1 \r\n# c\r\nname\ta#b\nstep 010\r\n\r\ncolor 05\n #\nline  00 -0\t040 -000 \t40 00010"},
+    "a.rw": "\n".join([
+        "#", "", " \t redwork\t 1 \r", "# c\r", "name\ta#b", "step 010\r", "\r", "color 05", " #",
+        "line  00 -0\t040 -000 \t40 00010"])},
     done("stitch migrate a.rw b.rw", "lines 1 pieces 1 cost 5\n",
          {"b.rw": rw(2, "name a#b", "step 10", "color 5", "line 0 0 40 0 40 10")}))
 
