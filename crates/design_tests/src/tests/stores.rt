@@ -228,8 +228,8 @@ fn a_real_file_stays_until_the_new_one_is_down(rt: HostRuntime) -> Result<(), Fa
     fs::create_dir(&rt, KEPT_FOLDER)?;
     fs::write(&rt, KEPT, b"old")?;
     symlink(&rt, "a", LINK)?;
-    let mut store = DirStore::new(rt.alloc(), &rt);
     for name in [KEPT, LINK] {
+        let mut store = DirStore::new(rt.alloc(), &rt);
         assert_eq!(rt; store.create(name), Ok(()));
         assert_eq!(rt; fs::read(&rt, KEPT)?.as_slice(), b"old".as_slice());
         assert_eq!(rt; store.append(name, b"new"), Ok(()));
@@ -237,6 +237,7 @@ fn a_real_file_stays_until_the_new_one_is_down(rt: HostRuntime) -> Result<(), Fa
         fs::write(&rt, KEPT, b"old")?;
     }
     assert!(rt; fs::symlink_metadata(&rt, LINK)?.is_symlink());
+    let mut store = DirStore::new(rt.alloc(), &rt);
     assert_eq!(rt; store.create(KEPT), Ok(()));
     assert_eq!(rt; store.create(OTHER), Ok(()));
     assert_eq!(rt; fs::read(&rt, KEPT)?.as_slice(), b"".as_slice());
