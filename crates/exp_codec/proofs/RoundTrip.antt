@@ -1,6 +1,6 @@
 -- What is written reads back.
 use Rattle.std.proofs.Common.{◌≡◌, ℕ, ◌+◌, ◌≤◌, ◌≢◌, ℤ, pos, negsuc, neg_ℤ, unsigned_abs, true, IsTrue, IsOkAnd, List, [], ◌∷◌, ◌++◌, None, refl, ap, sym, ◌∙◌, subst, arith}
-use Rattle.exp_codec.proofs.Names.{nat_tests, Point, DesignValue, is_point_within, origin, Loaded, loaded_with, next, LIMIT, exp_meaning, exp_move_of, units_from, exp_write_limits, exp_file_of, append-nil, acts_of, KeepsLimits, first_refusal, signed_byte, byte_of_number, bytes_of_move, exp_encoding}
+use Rattle.exp_codec.proofs.Names.{nat_tests, ints, Point, DesignValue, is_point_within, origin, Loaded, loaded_with, next, LIMIT, exp_meaning, exp_move_of, units_from, exp_write_limits, exp_file_of, append-nil, acts_of, KeepsLimits, first_refusal, from_twos_complement, to_twos_complement, bytes_of_move, exp_encoding}
 use Rattle.record_formats.specs.declared.event.Event.TheVariants as event
 use Rattle.format_traits.specs.Laws.{HasSameActs, IsCodec}
 use Rattle.record_formats.specs.RoundTrip.{EncodedEvents, DecodesEncoding, DecodeToActs, EncodedActsRoundTrip}
@@ -9,16 +9,16 @@ use Rattle.design_model.proofs.CallerLemmas.{point_of_parts}
 use Rattle.design_model.proofs.ListLemmas.{neg-neg}
 
 -- a number is decoded as it was encoded, and no encoded number is 80
-signed_byte-byte_of_number : (z : ℤ) → unsigned_abs z ≤ LIMIT → (signed_byte (byte_of_number z) ≡ z) × (byte_of_number z ≢ 0x80)
-signed_byte-byte_of_number (pos n) small = grind (arith, nat_tests)
-signed_byte-byte_of_number (negsuc n) small = grind (arith, nat_tests)
+number_reads : (z : ℤ) → unsigned_abs z ≤ LIMIT
+    → (from_twos_complement 128 (to_twos_complement 128 z) ≡ z) × (to_twos_complement 128 z ≢ 0x80)
+number_reads z small = grind (arith, nat_tests, ints)
 
 -- the bytes of a move have it, and the first of them is not 80
 exp_move_of-step : (m : Point) → IsTrue (is_point_within LIMIT m)
-    → (exp_move_of (byte_of_number m.x) (byte_of_number (neg_ℤ m.y)) ≡ m) × (byte_of_number m.x ≢ 0x80)
+    → (exp_move_of (to_twos_complement 128 m.x) (to_twos_complement 128 (neg_ℤ m.y)) ≡ m) × (to_twos_complement 128 m.x ≢ 0x80)
 exp_move_of-step m near =
-    let x = signed_byte-byte_of_number m.x in
-    let y = signed_byte-byte_of_number (neg_ℤ m.y) in
+    let x = number_reads m.x in
+    let y = number_reads (neg_ℤ m.y) in
     (point_of_parts (grind (arith, nat_tests, x)) (grind (arith, nat_tests, y, neg-neg)), grind (arith, nat_tests, x))
 
 -- a stitch and what stands after it
@@ -26,7 +26,7 @@ stitch_reads : (at : ℕ) (m : Point) (rest : List ℕ) → IsTrue (is_point_wit
     → units_from at (bytes_of_move m ++ rest) ≡ next at (event.Stitch m) (units_from (at + 2) rest)
 stitch_reads at m rest near =
     let step = exp_move_of-step m near in
-    two_at at (byte_of_number m.x) (byte_of_number (neg_ℤ m.y)) rest step.1
+    two_at at (to_twos_complement 128 m.x) (to_twos_complement 128 (neg_ℤ m.y)) rest step.1
     ∙ ap (λ m. next at (event.Stitch m) (units_from (at + 2) rest)) step.0
 
 -- what the units are taken for

@@ -1,20 +1,17 @@
 -- The units of an EXP file, as the Melco EXP format has them: two bytes for a stitch, and four
 -- where the first is 80. The bytes of moves are signed. The file's y points upwards and a design's
 -- downwards.
-use Rattle.std.specs.Prelude.{ℕ, ◌+◌, ◌-◌, ℤ, pos, neg_ℤ, true, false, List, [], ◌∷◌, Option, Some, None, nat_lt, ◌==◌, if◌then◌else◌}
+use Rattle.std.specs.Prelude.{ℕ, ◌+◌, neg_ℤ, true, false, List, [], ◌∷◌, Option, Some, None, ◌==◌, if◌then◌else◌}
 use Rattle.design_model.specs.declared.point.Point.{Point}
 use Rattle.record_formats.specs.declared.event.Event.{Event}
 use Rattle.record_formats.specs.declared.event.Event.TheVariants as event
 use Rattle.format_traits.specs.declared.fault.ReadFault.TheVariants as fault
 use Rattle.record_formats.specs.Records.{Records, over, refused, next}
-
--- A byte as a signed number, from -128 to 127.
-abbrev pub signed_byte : ℕ → ℤ
-signed_byte byte = if nat_lt byte 128 then pos byte else neg_ℤ (pos (256 - byte))
+use Rattle.record_formats.specs.TwosComplement.{from_twos_complement}
 
 -- The move of two bytes, in a design's axes.
 abbrev pub exp_move_of : ℕ → ℕ → Point
-exp_move_of a b = record { x = signed_byte a; y = neg_ℤ (signed_byte b) }
+exp_move_of a b = record { x = from_twos_complement 128 a; y = neg_ℤ (from_twos_complement 128 b) }
 
 -- The event of a unit of four bytes, by its control byte and its move; none for an unknown control
 -- byte.

@@ -1,6 +1,6 @@
 -- The result of writing a design as an EXP file: the units of its acts in order. A number is
--- encoded modulo 256. The greatest move is 127, and therefore no stitch begins with 80.
-use Rattle.std.specs.Prelude.{ℕ, ◌-◌, ℤ, pos, negsuc, neg_ℤ, List, [], ◌∷◌, None, Result}
+-- one byte in two's complement. The greatest move is 127, and therefore no stitch begins with 80.
+use Rattle.std.specs.Prelude.{ℕ, neg_ℤ, List, [], ◌∷◌, None, Result}
 use Rattle.std.specs.List.{concat}
 use Rattle.design_model.specs.declared.point.Point.{Point}
 use Rattle.design_model.specs.Acts.{acts_of}
@@ -9,16 +9,12 @@ use Rattle.format_traits.specs.declared.fault.WriteFault.{WriteFault}
 use Rattle.format_traits.specs.declared.encoder_state.WriteLimits.{WriteLimits}
 use Rattle.format_traits.specs.Refusals.{first_refusal, unless_refused}
 use Rattle.record_formats.specs.RecordEncodings.{RecordEncoding, records_of_acts}
+use Rattle.record_formats.specs.TwosComplement.{to_twos_complement}
 use Rattle.exp_codec.specs.declared.exp.TheConstants.{LIMIT}
-
--- A number from -127 to 127 as a byte.
-abbrev pub byte_of_number : ℤ → ℕ
-byte_of_number (pos n) = n
-byte_of_number (negsuc n) = 255 - n
 
 -- The two bytes of a move.
 abbrev pub bytes_of_move : Point → List ℕ
-bytes_of_move m = byte_of_number m.x ∷ byte_of_number (neg_ℤ m.y) ∷ []
+bytes_of_move m = to_twos_complement 128 m.x ∷ to_twos_complement 128 (neg_ℤ m.y) ∷ []
 
 -- The bytes of the units of an EXP file.
 abbrev pub exp_encoding : RecordEncoding

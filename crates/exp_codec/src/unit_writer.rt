@@ -1,13 +1,13 @@
 ghost use Rattle.design_model.specs.Points.{is_point_within};
-ghost use Rattle.exp_codec.specs.Writing.{byte_of_number, bytes_of_move, exp_encoding, exp_write_limits};
+ghost use Rattle.exp_codec.specs.Writing.{bytes_of_move, exp_encoding, exp_write_limits};
 ghost use Rattle.exp_codec.specs.declared.exp.TheConstants.{LIMIT};
-ghost use Rattle.std.specs.Prelude.{◌≡◌, ◌≤◌, IsTrue, unsigned_abs};
+ghost use Rattle.std.specs.Prelude.{◌≡◌, IsTrue};
 
 use crate::exp::LIMIT;
 use crate::units::{CONTROL, JUMP, STOP, TRIM, Units, opposite};
 use design_model::{Bytes, Memory, Point};
 use format_traits::WriteLimits;
-use record_formats::RecordWriter;
+use record_formats::{RecordWriter, unsigned};
 
 impl RecordWriter for Units {
     ghost encoding = { λ _. exp_encoding };
@@ -45,17 +45,8 @@ fn step_bytes(step: Point) -> [u8; 2]
     requires { IsTrue (is_point_within LIMIT step) }
     ensures { result ≡ bytes_of_move step }
 {
-    [byte_of(step.x), byte_of(opposite(step.y))]
-}
-
-/// Returns a number as a byte, modulo 256.
-fn byte_of(number: i32) -> u8
-    requires { unsigned_abs number ≤ LIMIT }
-    ensures { result ≡ byte_of_number number }
-{
-    if number < 0 {
-        (number + 256) as u8
-    } else {
-        number as u8
-    }
+    [
+        unsigned(128, step.x) as u8,
+        unsigned(128, opposite(step.y)) as u8,
+    ]
 }

@@ -1,6 +1,6 @@
 ghost use Rattle.design_model.specs.Points.{is_point_within};
 ghost use Rattle.exp_codec.specs.Reading.{exp_layout};
-ghost use Rattle.exp_codec.specs.Units.{event_of_control, signed_byte, exp_move_of, units_from};
+ghost use Rattle.exp_codec.specs.Units.{event_of_control, exp_move_of, units_from};
 ghost use Rattle.record_formats.specs.Records.{moves_of_event};
 ghost use Rattle.record_formats.specs.declared.record_reader.TheConstants.{MAX_RECORD_MOVE};
 ghost use Rattle.std.specs.List.{list_all};
@@ -8,7 +8,7 @@ ghost use Rattle.std.specs.Prelude.{◌≡◌, ◌≤◌, neg_ℤ, unsigned_abs,
 
 use design_model::{Design, Point};
 use format_traits::ReadFault;
-use record_formats::{Event, NextRecord, RecordReader};
+use record_formats::{Event, NextRecord, RecordReader, signed};
 
 /// The first byte of a unit of four bytes.
 pub const CONTROL: u8 = 0x80;
@@ -88,20 +88,8 @@ fn move_of(x: u8, y: u8) -> Point
     ensures small { IsTrue (is_point_within MAX_RECORD_MOVE result) }
 {
     Point {
-        x: signed(x),
-        y: opposite(signed(y)),
-    }
-}
-
-/// Returns a byte as a signed number.
-fn signed(byte: u8) -> i32
-    ensures value { result ≡ signed_byte byte }
-    ensures small { unsigned_abs result ≤ 128 }
-{
-    if byte < 0x80 {
-        byte as i32
-    } else {
-        byte as i32 - 256
+        x: signed(128, x as u32),
+        y: opposite(signed(128, y as u32)),
     }
 }
 

@@ -24,7 +24,7 @@ pub use Rattle.format_traits.specs.declared.fault.ReadFault.{ReadFault}
 pub use Rattle.format_traits.specs.declared.fault.WriteFault.{WriteFault}
 pub use Rattle.format_traits.specs.declared.loaded.Loaded.{Loaded}
 pub use Rattle.pec_codec.specs.Coordinates.{coordinate_of_byte, is_short_number, leading_coordinate, long_bytes_of, long_coordinate_in}
-pub use Rattle.pec_codec.specs.Coordinates.{short_bytes, to_twos_complement}
+pub use Rattle.pec_codec.specs.Coordinates.{short_bytes}
 pub use Rattle.pec_codec.specs.Header.{distance_field, labels_of, pec_header_of, pec_label_of, size_fields, threads_after, threads_in}
 pub use Rattle.pec_codec.specs.Header.{threads_of}
 pub use Rattle.pec_codec.specs.Laws.{BlockRoundTrips, BlocksKeepLaws, RestoresDesign}
@@ -41,3 +41,4 @@ pub use Rattle.record_formats.specs.Readings.{loaded_with}
 pub use Rattle.record_formats.specs.RecordEncodings.{AppendsRecords, needle_records, records_of_act, records_of_acts, records_of_acts_from}
 pub use Rattle.record_formats.specs.Records.{file_commands, moves_of_records, next, over}
 pub use Rattle.record_formats.specs.RoundTrip.{DecodesEncoding, EncodedActsRoundTrip, EncodedEvents}
+pub use Rattle.record_formats.specs.TwosComplement.{to_twos_complement}

@@ -4,17 +4,9 @@
 --
 --          bit 7  bit 6  bit 5  bit 4  bits 3 to 0
 --   first   set   any    trim   jump   high bits
-use Rattle.std.specs.Prelude.{ℕ, ◌+◌, ◌*◌, ◌/◌, ◌%◌, ℤ, pos, negsuc, ◌-ℤ◌, unsigned_abs, Bool, false, List, [], ◌∷◌, Option, Some, None, nat_lt, nat_le, ◌==◌, if◌then◌else◌}
-use Rattle.std.specs.Int.{int_rem_euclid}
+use Rattle.std.specs.Prelude.{ℕ, ◌+◌, ◌*◌, ◌/◌, ◌%◌, ℤ, pos, negsuc, Bool, false, List, [], ◌∷◌, Option, Some, None, nat_lt, nat_le, ◌==◌, if◌then◌else◌}
+use Rattle.record_formats.specs.TwosComplement.{from_twos_complement, to_twos_complement}
 use Rattle.pec_codec.specs.declared.coordinate.Coordinate.{Coordinate}
-
--- A number below twice the half, read as two's complement: from the half on, it is negative.
-abbrev pub from_twos_complement : ℕ → ℕ → ℤ
-from_twos_complement half n = if nat_lt n half then pos n else pos n -ℤ pos (2 * half)
-
--- A number from minus the half to below the half, encoded as two's complement.
-abbrev pub to_twos_complement : ℕ → ℤ → ℕ
-to_twos_complement half z = unsigned_abs (int_rem_euclid z (pos (2 * half)))
 
 -- True for the numbers that the writer encodes in one byte.
 abbrev pub is_short_number : ℤ → Bool

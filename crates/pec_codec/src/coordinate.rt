@@ -1,6 +1,8 @@
-ghost use Rattle.pec_codec.specs.Coordinates.{leading_coordinate, coordinate_of_two_bytes, coordinate_of_byte, from_twos_complement};
+ghost use Rattle.pec_codec.specs.Coordinates.{leading_coordinate, coordinate_of_two_bytes, coordinate_of_byte};
 ghost use Rattle.record_formats.specs.declared.record_reader.TheConstants.{MAX_RECORD_MOVE};
-ghost use Rattle.std.specs.Prelude.{◌≡◌, ◌<◌, ◌≤◌, ◌*◌, length, unsigned_abs, IfNone, IfSome};
+ghost use Rattle.std.specs.Prelude.{◌≡◌, ◌<◌, ◌≤◌, length, unsigned_abs, IfNone, IfSome};
+
+use record_formats::signed;
 
 /// A coordinate of a record.
 #[derive(Clone, Copy)]
@@ -51,19 +53,5 @@ fn long_coordinate(first: u8, second: u8) -> Coordinate
         number: signed(2048, first as u32 % 16 * 256 + second as u32),
         trims: first / 32 % 2 == 1,
         jumps: first / 16 % 2 == 1,
-    }
-}
-
-/// Returns a number below twice the half, read as two's complement.
-fn signed(half: u32, number: u32) -> i32
-    requires half { half ≤ 2048 }
-    requires number { number < 2 * half }
-    ensures value { result ≡ from_twos_complement half number }
-    ensures small { unsigned_abs result ≤ MAX_RECORD_MOVE }
-{
-    if number < half {
-        number as i32
-    } else {
-        number as i32 - 2 * half as i32
     }
 }

@@ -1,15 +1,16 @@
 ghost use Rattle.design_model.specs.Points.{is_point_within};
-ghost use Rattle.pec_codec.specs.Coordinates.{is_short_number, long_bytes_of, to_twos_complement};
+ghost use Rattle.pec_codec.specs.Coordinates.{is_short_number, long_bytes_of};
 ghost use Rattle.pec_codec.specs.RecordBytes.{long_record, stop_byte_of};
 ghost use Rattle.pec_codec.specs.Writing.{pec_encoding, pec_write_limits};
 ghost use Rattle.pec_codec.specs.declared.block.TheConstants.{LIMIT};
-ghost use Rattle.std.specs.Prelude.{◌≡◌, ◌<◌, ◌≤◌, ◌*◌, ◌++◌, OnOk, IsTrue, unsigned_abs};
+ghost use Rattle.record_formats.specs.TwosComplement.{to_twos_complement};
+ghost use Rattle.std.specs.Prelude.{◌≡◌, ◌≤◌, ◌++◌, OnOk, IsTrue, unsigned_abs};
 
 use crate::block::WRITE_LIMITS;
 use crate::pec_records::PecRecords;
 use design_model::{Bytes, Memory, Point};
 use format_traits::WriteLimits;
-use record_formats::RecordWriter;
+use record_formats::{RecordWriter, unsigned};
 
 /// The mark of a jump in the first byte of a coordinate.
 const JUMP: u8 = 0x10;
@@ -83,16 +84,6 @@ fn short_byte(number: i32) -> u8
     ensures { result ≡ to_twos_complement 64 number }
 {
     unsigned(64, number) as u8
-}
-
-/// Returns a number from minus the half to below the half, encoded as two's complement.
-fn unsigned(half: u32, number: i32) -> u32
-    requires half { 0 < half }
-    requires most { half ≤ 2048 }
-    ensures value { result ≡ to_twos_complement half number }
-    ensures small { result < 2 * half }
-{
-    number.rem_euclid(2 * half as i32) as u32
 }
 
 /// Returns whether the writer encodes a number in one byte.

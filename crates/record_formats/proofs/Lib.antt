@@ -4,5 +4,6 @@ pub mod PointLemmas
 pub mod HeaderLemmas
 mod RecordFacts
 mod RoundTripFacts
+mod TwosComplementFacts
 pub mod WriterLemmas
 pub mod rereading

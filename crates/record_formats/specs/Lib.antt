@@ -7,3 +7,4 @@ pub mod Layouts
 pub mod RecordStates
 pub mod RecordEncodings
 pub mod RoundTrip
+pub mod TwosComplement

@@ -13,6 +13,7 @@ mod record_reader;
 mod record_stage;
 mod record_writer;
 mod theorems;
+mod twos_complement;
 
 pub use act_writing::ActRecords;
 pub use event::Event;
@@ -22,3 +23,4 @@ pub use record_reader::{MAX_RECORD, MAX_RECORD_MOVE, NextRecord, RecordReader};
 pub use record_stage::RecordStage;
 pub use record_writer::RecordWriter;
 pub use theorems::encoded_acts_round_trip;
+pub use twos_complement::{signed, unsigned};
