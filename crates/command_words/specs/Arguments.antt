@@ -9,6 +9,7 @@ use Rattle.design_model.specs.declared.whole_number.Whole.TheVariants as whole
 use Rattle.design_model.specs.WholeNumbers.{parsed_whole}
 use Rattle.command_words.specs.declared.request_words.TheConstants.{MAX_SAMPLE, MAX_SIDE}
 use Rattle.command_words.specs.Changes.{Change, move, thread}
+use Rattle.text_parts.specs.Parts.{split_at_byte}
 
 -- The byte between two numbers.
 abbrev pub comma : ℕ
@@ -17,16 +18,6 @@ comma = 44
 -- The byte between the name of an edit and its value.
 abbrev pub equals_sign : ℕ
 equals_sign = 61
-
--- The two parts of a text with a byte added in front of the first.
-abbrev pub with_first_byte : ℕ → Option (List ℕ × List ℕ) → Option (List ℕ × List ℕ)
-with_first_byte byte None = None
-with_first_byte byte (Some (before, after)) = Some (byte ∷ before, after)
-
--- The parts of a text before and after the first occurrence of a byte, if there is one.
-abbrev pub split_at_byte : ℕ → List ℕ → Option (List ℕ × List ℕ)
-split_at_byte c [] = None
-split_at_byte c (b ∷ bs) = if b == c then Some ([], bs) else with_first_byte b (split_at_byte c bs)
 
 -- The integer of a parsed number, if its absolute value is at most `most`.
 abbrev pub integer_within : ℕ → Whole → Option ℤ

@@ -1,11 +1,13 @@
-ghost use Rattle.command_words.specs.Arguments.{natural_within, comma, parsed_named_edit, parsed_edit, parsed_mirror, split_at_byte, parsed_block_thread, parsed_shift, point_within, turn_if_some};
+ghost use Rattle.command_words.specs.Arguments.{natural_within, comma, parsed_named_edit, parsed_edit, parsed_mirror, parsed_block_thread, parsed_shift, point_within, turn_if_some};
 ghost use Rattle.command_words.specs.Edits.{IsEditInBounds, change_of_edit};
 ghost use Rattle.design_model.specs.WholeNumbers.{parsed_whole};
 ghost use Rattle.std.specs.Prelude.{◌≡◌, ◌≤◌, IfSome, option_map, unsigned_abs};
+ghost use Rattle.text_parts.specs.Parts.{split_at_byte};
 
 use crate::number_words::{parse_integer, parse_natural};
 use design_edits::{Axis, MAX_SHIFT, Motion};
 use design_model::Point;
+use text_parts::split_first;
 
 /// An edit of a design.
 #[derive(Clone, Copy)]
@@ -21,7 +23,7 @@ pub fn parse_edit(word: &[u8]) -> Option<Edit>
     ensures value { option_map change_of_edit result ≡ parsed_edit word.now }
     ensures small { IfSome result IsEditInBounds }
 {
-    let (name, value) = split_once(word, b'=')?;
+    let (name, value) = split_first(word, b'=')?;
     parse_named_edit(name, value)
 }
 
@@ -44,7 +46,7 @@ pub fn parse_point(most: u32, value: &[u8]) -> Option<Point>
     ensures value { result ≡ point_within most (split_at_byte comma value.now) }
     ensures small { IfSome result (λ at. (unsigned_abs at.x ≤ most) × (unsigned_abs at.y ≤ most)) }
 {
-    let (across, down) = split_once(value, b',')?;
+    let (across, down) = split_first(value, b',')?;
     let x = parse_integer(most, across)?;
     let y = parse_integer(most, down)?;
     Some(Point { x, y })
@@ -82,23 +84,11 @@ fn parse_thread(value: &[u8]) -> Option<Edit>
     ensures value { option_map change_of_edit result ≡ parsed_block_thread (split_at_byte comma value.now) }
     ensures small { IfSome result IsEditInBounds }
 {
-    let (block, number) = split_once(value, b',')?;
+    let (block, number) = split_first(value, b',')?;
     let place = parse_natural(1, 255, block)?;
     let thread = parse_natural(0, 255, number)?;
     Some(Edit::Thread {
         place,
         thread: thread as u8,
     })
-}
-
-/// Splits a text at the first occurrence of a byte, if there is one.
-pub fn split_once(text: &[u8], separator: u8) -> Option<(&[u8], &[u8])>
-    ensures { option_map (λ parts. (parts.0.now, parts.1.now)) result ≡ split_at_byte separator text.now }
-{
-    for (place, byte) in text.iter().enumerate() {
-        if *byte == separator {
-            return Some((&text[..place], &text[place + 1..]));
-        }
-    }
-    None
 }

@@ -8,7 +8,7 @@ mod number_words;
 mod request_words;
 mod requests;
 
-pub use edit_words::{Edit, parse_edit, parse_point, split_once};
+pub use edit_words::{Edit, parse_edit, parse_point};
 pub use names::{FileNames, RouteNames, file_name, file_names, named_rest, only_name, route_names};
 pub use number_words::{parse_integer, parse_natural};
 pub use request_words::{MAX_SAMPLE, MAX_SIDE, request};

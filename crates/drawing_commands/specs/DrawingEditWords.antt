@@ -1,7 +1,7 @@
 -- The edits of a drawing that arguments represent: `shift=DX,DY`, `turn=Q`, `mirror=x` and
 -- `mirror=y` as of a design, `centre`, `step=N`, `order=P,Q`, `start=X,Y` and `end=X,Y`.
 use Rattle.std.specs.Prelude.{ℕ, List, [], Option, Some, None, bytes_eq, codes, option_map, unwrap_or, if◌then◌else◌}
-use Rattle.command_words.specs.Arguments.{all_parsed, comma, equals_sign, natural_within, parsed_edit, point_within, split_at_byte}
+use Rattle.command_words.specs.Arguments.{all_parsed, comma, equals_sign, natural_within, parsed_edit, point_within}
 use Rattle.command_words.specs.Changes.{Change, move}
 use Rattle.design_model.specs.declared.point.TheConstants.{NEEDLE_LIMIT}
 use Rattle.design_model.specs.WholeNumbers.{parsed_whole}
@@ -9,6 +9,7 @@ use Rattle.drawing_edits.specs.declared.drawing_edit.DrawingEdit.{DrawingEdit}
 use Rattle.drawing_edits.specs.declared.drawing_edit.DrawingEdit.TheVariants as edit
 use Rattle.line_graph.specs.declared.limits.TheConstants.{MAX_LINES}
 use Rattle.step_splitter.specs.declared.segment.TheConstants.{MAX_STEP}
+use Rattle.text_parts.specs.Parts.{split_at_byte}
 
 -- The edit of a drawing that a change of a design is, if it moves points.
 abbrev pub moving_edit : Option Change → Option DrawingEdit

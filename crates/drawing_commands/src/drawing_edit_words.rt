@@ -1,13 +1,15 @@
-ghost use Rattle.command_words.specs.Arguments.{comma, split_at_byte};
+ghost use Rattle.command_words.specs.Arguments.{comma};
 ghost use Rattle.command_words.specs.Edits.{IsEditInBounds, change_of_edit};
 ghost use Rattle.drawing_commands.specs.DrawingEditWords.{moving_edit, parsed_drawing_edit, parsed_drawing_edits, parsed_named_drawing_edit, parsed_order};
 ghost use Rattle.drawing_edits.specs.EditedDrawings.{IsDrawingEdit};
 ghost use Rattle.std.specs.Prelude.{◌≡◌, IfSome, Some, is_some, map, string_bytes};
+ghost use Rattle.text_parts.specs.Parts.{split_at_byte};
 
-use command_words::{Edit, parse_edit, parse_natural, parse_point, split_once};
+use command_words::{Edit, parse_edit, parse_natural, parse_point};
 use design_model::NEEDLE_LIMIT;
 use drawing_edits::DrawingEdit;
 use line_graph::{MAX_LINES, MAX_STEP};
+use text_parts::split_first;
 
 /// Parses an edit of a drawing: `shift=DX,DY`, `turn=Q`, `mirror=x`, `mirror=y`, `centre`, `step=N`,
 /// `order=P,Q`, `start=X,Y` or `end=X,Y`.
@@ -18,7 +20,7 @@ pub(crate) fn parse_drawing_edit(word: &[u8]) -> Option<DrawingEdit>
     if word == b"centre".as_slice() {
         return Some(DrawingEdit::Centre);
     }
-    let (name, value) = split_once(word, b'=')?;
+    let (name, value) = split_first(word, b'=')?;
     parse_named(word, name, value)
 }
 
@@ -45,7 +47,7 @@ fn parse_order(value: &[u8]) -> Option<DrawingEdit>
     ensures value { result ≡ parsed_order (split_at_byte comma value.now) }
     ensures small { IfSome result IsDrawingEdit }
 {
-    let (before, after) = split_once(value, b',')?;
+    let (before, after) = split_first(value, b',')?;
     let first = parse_natural(1, MAX_LINES as u32, before)?;
     let second = parse_natural(1, MAX_LINES as u32, after)?;
     Some(DrawingEdit::Order { first, second })

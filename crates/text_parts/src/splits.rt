@@ -1,12 +1,13 @@
 ghost use Rattle.std.specs.List.{position_or_len};
-ghost use Rattle.std.specs.Prelude.{◌≡◌, ◌≤◌, ◌∷◌, ◌+◌, ◌==◌, [], drop, length, IfNone, IfSome};
-ghost use Rattle.text_parts.specs.Parts.{parts_between};
+ghost use Rattle.std.specs.Prelude.{◌≡◌, ◌≤◌, ◌∷◌, ◌+◌, ◌==◌, [], drop, length, option_map, IfNone, IfSome};
+ghost use Rattle.text_parts.specs.Parts.{parts_between, split_at_byte};
 
 use memchr::memchr;
 
 /// Returns the bytes before the first mark and those after it, if there is a mark.
 #[inline(always)]
 pub fn split_first(bytes: &[u8], mark: u8) -> Option<(&[u8], &[u8])>
+    ensures value { option_map (λ r. (r.0.now, r.1.now)) result ≡ split_at_byte mark bytes.now }
     ensures some { IfSome result (λ r. parts_between mark bytes.now
         ≡ r.0.now ∷ parts_between mark r.1.now) }
     ensures rest { IfSome result (λ r. r.1.now ≡ drop (length r.0.now + 1) bytes.now) }

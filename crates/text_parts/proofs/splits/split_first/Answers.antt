@@ -1,7 +1,16 @@
-use Rattle.std.proofs.Common.{ap, arith, drop, ◌∙◌}
+use Rattle.std.proofs.Common.{ap, arith, drop, sym, ◌∙◌}
 use Rattle.std.proofs.lemmas.Bool.Decides.{nat_tests}
-use Rattle.text_parts.proofs.PartLemmas.{drop_one, first_part, one_part}
+use Rattle.text_parts.proofs.PartLemmas.{drop_one, first_part, no_split, one_part, one_split}
 use Rattle.text_parts.proofs.splits.split_first.Goals as goal
+
+pub returns-then-is_empty-clause-value : goal.returns-then-is_empty-clause-value
+returns-then-is_empty-clause-value c =
+    sym (no_split _ _ _ _ c.first_index.ensures.value c.split_at.ensures.back (grind (arith, nat_tests)))
+
+pub returns-clause-value : goal.returns-clause-value
+returns-clause-value c =
+    sym (one_split _ _ _ _ _ _ c.first_index.ensures.value c.split_at.ensures.front c.split_at.ensures.back
+    (grind (arith, nat_tests)) c.split_at-2.ensures.back)
 
 pub returns-then-is_empty-clause-none : goal.returns-then-is_empty-clause-none
 returns-then-is_empty-clause-none c =
