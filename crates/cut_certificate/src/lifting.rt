@@ -1,6 +1,6 @@
 ghost use Rattle.cut_certificate.specs.Lifts.{AreLiftableMoats, IsLifted};
 ghost use Rattle.line_graph.specs.PiecesOfDrawings.{graph_of};
-ghost use Rattle.std.specs.Prelude.{◌<◌, ◌^◌, IfOk, length};
+ghost use Rattle.std.specs.Prelude.{IfOk};
 
 use crate::moat_cuts::add_cuts;
 use crate::moat_distances::reaches;
@@ -15,7 +15,6 @@ use std::alloc::Global;
 /// over the odd junctions becomes cuts of the junctions near it. The only error is out of memory.
 pub fn lift(alloc: Global, p: &Piece, rows: &Rows, moats: &Moats) -> Result<Cuts, Memory>
     requires moats { AreLiftableMoats (graph_of p.now) rows.now moats.now }
-    requires few { length moats.now < 2 ^ 31 }
     ensures { IfOk result (IsLifted (graph_of p.now) moats.now) }
 {
     least_costs_are_distances();

@@ -1,6 +1,6 @@
 -- A matching of the odd junctions of a piece, with moats (dual variables) of the same total. Costs
 -- count steps, widths halves of a step.
-use Rattle.std.specs.Prelude.{◌≡◌, ◌*◌, ◌+◌, ◌<◌, ◌≤◌, ◌^◌, true, List, None, length, All}
+use Rattle.std.specs.Prelude.{◌≡◌, ◌*◌, ◌+◌, ◌≤◌, true, List, None, length, All}
 use Rattle.blossom_match.specs.declared.matching.Moat.{Moat}
 use Rattle.blossom_match.specs.declared.matching.Pair.{Pair}
 use Rattle.blossom_match.specs.Matchings.{IsPerfectMatching, width_of}
@@ -22,7 +22,6 @@ pub record AreOddRows (p : PieceValue) (rows : RowsValue) : Type 0 where
 pub record AreOddPairs (p : PieceValue) (rows : RowsValue) (pairs : List Pair)
     (moats : List Moat) : Type 0 where
   pub moats_are : AreLiftableMoats p rows moats
-  pub few : length moats < 2 ^ 31
   pub pairs_are : All (IsPairOf rows) pairs
   pub each : IsPerfectMatching (length rows.terminals) pairs
   pub paid : width_of moats ≡ 2 * pair_costs rows pairs
