@@ -44,6 +44,42 @@ pub fn read_body(
     finished(alloc, version, number, draft)
 }
 
+/// Returns the drawing of all lines of a text after its header, or the first fault.
+pub fn drawing_after(
+    alloc: Global,
+    version: Version,
+    first: u32,
+    text: &[u8],
+) -> Result<Drawing, DrawFault>
+    requires { first + length text.now ≤ MAX_FILE + 1 }
+    ensures answer { ReadsDrawing (drawing_after_lines version first empty_draft
+        (words_by_line text.now)) result }
+    ensures meant { IfOk result (IsDrawingOfVersion version) }
+{
+    let (draft, number) = draft_of_lines(alloc, version, first, text)?;
+    finished_drawing(alloc, version, number, draft)
+}
+
+/// Returns the drawing of a draft, where the text ends before the line of the given number. In version 1 the
+/// drawing is the lines as they are drawn, and they are not copied.
+#[tactic(auto, using(crate::proofs::DrawnDraftLemmas::drawing_from_lines))]
+fn finished_drawing(
+    alloc: Global,
+    version: Version,
+    number: u32,
+    draft: DrawingDraft,
+) -> Result<Drawing, DrawFault>
+    ensures answer { ReadsDrawing (drawing_of_draft version number draft) result }
+    ensures meant { IfOk result (IsDrawingOfVersion version) }
+{
+    let opened = draft.opened;
+    let drawn = drawn_in(version, number, draft)?;
+    match version {
+        Version::One => Ok(drawn.drawing),
+        Version::Two | Version::Three => drawing_of(alloc, version, number, opened, &drawn),
+    }
+}
+
 /// Returns the drawing of a draft and its lines, where the text ends before the line of the given number.
 #[tactic(auto, using(crate::proofs::DrawnDraftLemmas::drawing_from_lines))]
 fn finished(

@@ -1,14 +1,13 @@
 ghost use Rattle.design_model.specs.OutOfMemory.{IsSpecified};
 ghost use Rattle.design_model.specs.declared.limits.TheConstants.{MAX_FILE};
 ghost use Rattle.drawing_text.specs.DrawingLines.{lines_read};
-ghost use Rattle.drawing_text.specs.DrawingText.{IsDrawingOfVersion, IsJoinedWithoutEnds, ReadsDrawing, body_of_text, draw_fault_is_out_of_memory, drawing_as2, drawing_of, drawing_after_lines, parsed_header, parsed_version};
-ghost use Rattle.drawing_text.specs.TextLines.{empty_draft};
+ghost use Rattle.drawing_text.specs.DrawingText.{IsJoinedWithoutEnds, ReadsDrawing, body_of_text, draw_fault_is_out_of_memory, drawing_as2, drawing_of, parsed_header, parsed_version};
 ghost use Rattle.drawing_text.specs.Words.{is_ignored_line, words_by_line, words_of_line};
 ghost use Rattle.line_graph.specs.EndOrders.{HasOrderedEnds};
 ghost use Rattle.std.specs.Prelude.{◌≡◌, ◌+◌, ◌≤◌, Ok, Err, length, IfOk, IfErr};
 
 use crate::draw_fault::{DrawFault, fault_with_line};
-use crate::lines_read::{LinesRead, read_body};
+use crate::lines_read::{LinesRead, drawing_after, read_body};
 use crate::text_words::{is_comment, next_line, next_word, only_word, without_return};
 use crate::theorems::texts_order_ends;
 use crate::version::Version;
@@ -107,19 +106,4 @@ fn version_of_word(word: &[u8]) -> Option<Version>
         [b'3'] => Some(Version::Three),
         _ => None,
     }
-}
-
-fn drawing_after(
-    alloc: Global,
-    version: Version,
-    first: u32,
-    text: &[u8],
-) -> Result<Drawing, DrawFault>
-    requires { first + length text.now ≤ MAX_FILE + 1 }
-    ensures answer { ReadsDrawing (drawing_after_lines version first empty_draft
-        (words_by_line text.now)) result }
-    ensures meant { IfOk result (IsDrawingOfVersion version) }
-{
-    let LinesRead { drawing, .. } = read_body(alloc, version, first, text)?;
-    Ok(drawing)
 }
