@@ -32,15 +32,31 @@ const LOLLIPOP: [DrawingPart; 5] = [
     Block(1),
     Line(&[(0, 0), (20, 0)]),
     Block(2),
-    Line(&[(20, 0), (40, 0), (40, 20), (20, 0)]),
     Line(&[(0, 0), (20, 0)]),
+    Line(&[(20, 0), (30, 10), (30, -10), (20, 0)]),
 ];
 
+/// Two closed lines, each at an end of a third line.
+const BRIDGE: [DrawingPart; 4] = [
+    Block(1),
+    Line(&[(0, 0), (-10, 10), (-10, -10), (0, 0)]),
+    Line(&[(0, 0), (30, 0)]),
+    Line(&[(30, 0), (40, 10), (40, -10), (30, 0)]),
+];
+
+/// Two closed lines that begin at one point.
+const TWO_SQUARES: [DrawingPart; 3] = [
+    Block(1),
+    Line(&[(0, 0), (10, 0), (10, 10), (0, 10), (0, 0)]),
+    Line(&[(0, 0), (-10, 0), (-10, -10), (0, -10), (0, 0)]),
+];
+
+/// Three lines from one point to another.
 const THETA: [DrawingPart; 4] = [
     Block(1),
     Line(&[(0, 0), (10, 0)]),
     Line(&[(10, 0), (5, 10), (0, 0)]),
-    Line(&[(0, 0), (0, -25), (10, -25), (10, 0)]),
+    Line(&[(0, 0), (0, -20), (10, -20), (10, 0)]),
 ];
 
 /// Two lines that cross where both have a point, one that ends inside the first, and one that connects the
@@ -53,7 +69,7 @@ const CROSSING: [DrawingPart; 5] = [
     Line(&[(0, 20), (20, 20)]),
 ];
 
-const TABLE: [(&[DrawingPart], &[Wanted]); 4] = [
+const TABLE: [(&[DrawingPart], &[Wanted]); 6] = [
     (
         &TRIANGLES,
         &[(
@@ -78,11 +94,25 @@ const TABLE: [(&[DrawingPart], &[Wanted]); 4] = [
             (
                 1,
                 &[1, 2],
-                &[(20, 0), (0, 0)],
-                &[(0, 0, 6), (1, 0, 2)],
-                &[3, 1],
+                &[(0, 0), (20, 0)],
+                &[(0, 1, 2), (1, 1, 4)],
+                &[1, 3],
             ),
         ],
+    ),
+    (
+        &BRIDGE,
+        &[(
+            0,
+            &[0, 1, 2],
+            &[(0, 0), (30, 0)],
+            &[(0, 0, 4), (0, 1, 3), (1, 1, 4)],
+            &[3, 3],
+        )],
+    ),
+    (
+        &TWO_SQUARES,
+        &[(0, &[0, 1], &[(0, 0)], &[(0, 0, 4), (0, 0, 4)], &[4])],
     ),
     (
         &THETA,
@@ -90,7 +120,7 @@ const TABLE: [(&[DrawingPart], &[Wanted]); 4] = [
             0,
             &[0, 1, 2],
             &[(0, 0), (10, 0)],
-            &[(0, 1, 1), (1, 0, 2), (0, 1, 7)],
+            &[(0, 1, 1), (1, 0, 2), (0, 1, 5)],
             &[3, 3],
         )],
     ),
