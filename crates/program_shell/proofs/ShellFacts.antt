@@ -1,11 +1,13 @@
 -- Worked values of the lines and texts of a program.
-use Rattle.std.proofs.Common.{◌≡◌, ◌++◌, refl}
+use Rattle.std.proofs.Common.{◌≡◌, ◌++◌, [], ◌∷◌, map, refl}
 use Rattle.std.specs.Fmt.{digits}
 use Rattle.std.specs.Prelude.{codes}
 use Rattle.program_shell.proofs.Names.{cannot_print_line, cannot_read_line, cannot_write_line, message_line, out_of_memory_line}
 use Rattle.design_model.specs.TextLines.{newline}
 use Rattle.format_traits.specs.declared.fault.ReadFault.TheVariants as read
+use Rattle.program_shell.specs.ExitCodes.{exit_number}
 use Rattle.program_shell.specs.FileTexts.{read_fault_text, too_long_text}
+use Rattle.program_shell.specs.declared.status.Status.TheVariants as status
 
 -- what the outside did not do
 pub known_unread : (cannot_read_line (codes "stitch") (codes "a") ≡ codes "stitch: cannot read a" ++ newline)
@@ -43,3 +45,8 @@ known_range = refl
 pub known_many : read_fault_text (codes "a") (read.TooMany 9) ≡ codes "a: byte 9: more than 1000000 commands"
 unfolding digits
 known_many = refl
+
+-- the exit code of each status
+pub known_exit_numbers : map exit_number (status.Done ∷ status.Refused ∷ status.Usage ∷ status.Fault ∷ status.Memory ∷ [])
+    ≡ 0 ∷ 1 ∷ 2 ∷ 3 ∷ 4 ∷ []
+known_exit_numbers = refl

@@ -12,3 +12,4 @@ pub mod StepOutcomes
 pub mod FinishedRuns
 pub mod ExactPlans
 pub mod PutSteps
+pub mod ExitCodes
