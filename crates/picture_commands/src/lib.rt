@@ -4,8 +4,10 @@
 
 mod drawing;
 mod drawn;
+mod picture_run;
 mod proving;
 mod running;
 mod words;
 
+pub use picture_run::run_picture;
 pub use running::{PROGRAM, run};

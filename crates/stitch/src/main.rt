@@ -1,23 +1,14 @@
-//! The program: creates the formats, and runs the commands over the real files and streams.
+//! The program: runs the commands with the five formats over the real files and streams.
 #![tactic(auto)]
 
-use dst_codec::Dst;
-use exp_codec::Exp;
-use format_traits::Format;
-use pes_codec::{Pec, Pes};
 use program_shell::start;
 use std::process::ExitCode;
-use stitch_cli::{name, run};
-use stitch_text::List;
+use stitch_cli::{name, run_stitch};
 
 fn main(rt: HostRuntime) -> ExitCode {
-    start(&rt, name(), |alloc, words, store, out, err| {
-        let mut formats: Vec<Box<dyn Format>> = Vec::new(alloc);
-        formats.push(Box::new(alloc, Dst::new(alloc))?)?;
-        formats.push(Box::new(alloc, Exp::new(alloc))?)?;
-        formats.push(Box::new(alloc, Pec::new(alloc))?)?;
-        formats.push(Box::new(alloc, Pes::new(alloc))?)?;
-        formats.push(Box::new(alloc, List::new(alloc))?)?;
-        Ok(run(alloc, words, &mut formats, store, out, err))
-    })
+    start(
+        &rt,
+        name(),
+        |alloc, words, store, out, err| run_stitch(alloc, words, store, out, err),
+    )
 }

@@ -1,6 +1,6 @@
 -- The headline, of files.
 use Rattle.std.proofs.Common.{◌≡◌, ℕ, Bool, true, false, nat_lt, List, [], ◌∷◌, Option, Some, Result, Ok, Err, IsOkAnd, refl, sym, subst}
-use Rattle.stitch_cli.proofs.Names.{AllZip, PieceCert, walks_of, cert_of, acts_of, drawing_of, Loaded, DrawingValue, piece_graph, Sews, Files, Makes, ProductValue, IsLeastPieceRoute, CheckOrder, check_cert, check_design, check_drawing, Order, plan_of, stitch, checking, sewing, IsRouteLeft, IsYesRight, IsSewnProduct, SewingOrder, sewing_by_limit, sewing_read, IsSewnBy, AllFilesHold, IsDone, IsCorrectPieceCert, OutcomesMeanHeadline, IsParsedMade, parsed_made}
+use Rattle.stitch_cli.proofs.Names.{AllZip, PieceCert, walks_of, cert_of, acts_of, drawing_of, Loaded, DrawingValue, piece_graph, Sews, Files, Makes, ProductValue, IsLeastPieceRoute, CheckOrder, check_cert, check_design, check_drawing, Order, plan_of, stitch, checking, sewing, IsRouteLeft, IsYesRight, IsSewnProduct, SewingOrder, sewing_by_limit, sewing_read, IsSewnBy, AllFilesHold, WhereVisible, IsDone, IsCorrectPieceCert, OutcomesMeanHeadline, IsParsedMade, parsed_made}
 use Rattle.drawing_text.specs.ValidTexts.{TextsDefineValidDrawings}
 use Rattle.program_shell.specs.RunViews.{Views}
 use Rattle.route_verdict.specs.declared.sewing_ways.Sewing.TheVariants as ways
@@ -44,10 +44,11 @@ route_made order files product made =
     by_limit d true made = absurd made
     by_limit d false made = made
 
--- the two files of a route that is made
+-- the two files of a route that is made, over visible files
 routed_left : TextsDefineValidDrawings → CorrectRoutesAreAccepted → YesIsLeastRedwork → (order : SewingOrder) (before after : Option Files)
-    (product : ProductValue) → IsMadeRoute order before product → AllFilesHold after product.outputs → IsRouteLeft order before after
-routed_left valid accepted redwork order before after product is held =
+    (product : ProductValue) → IsMadeRoute order before product → AllFilesHold after product.outputs
+    → WhereVisible before (λ old. WhereVisible after (λ new. IsRouteLeft order old new))
+routed_left valid accepted redwork order before after product is held old were new are =
     let made = is.sewn in
     let d = is.read.value in
     let routed : IsSewnBy ways.Route order.format d made.files = made.sewn in
@@ -61,22 +62,24 @@ routed_left valid accepted redwork order before after product is held =
       drawing_file = is.read.bytes;
       design_file = made.files.design_file;
       cert_file = made.files.cert_text;
-      drawing_held = is.read.content.held;
-      design_held = files.1.0;
-      cert_held = files.0;
+      drawing_held = is.read.content.held old were;
+      design_held = files.1.0 new are;
+      cert_held = files.0 new are;
       d = d;
       loaded = loaded.value;
       certs = routed.certs;
       say = record { drawn = is.read.is; read = loaded.is; certified = routed.cert_reads };
       ended = loaded.holds.0;
       least = record { redwork = (redwork d loaded.value.design routed.certs keeps).0 yes; within = routed.sewn.within };
+      judged = yes;
     }
 
 same_order : (a b : Order) → Some a ≡ Some b → a ≡ b
 same_order a b is = cc
 
 route_done : TextsDefineValidDrawings → CorrectRoutesAreAccepted → YesIsLeastRedwork → (order : SewingOrder) (before after : Views)
-    → IsDone stitch (Some (sewing ways.Route order)) before after → IsRouteLeft order before.store.files after.store.files
+    → IsDone stitch (Some (sewing ways.Route order)) before after
+    → WhereVisible before.store.files (λ old. WhereVisible after.store.files (λ new. IsRouteLeft order old new))
 route_done valid accepted redwork order before after done =
     let same = same_order (sewing ways.Route order) done.order done.is_requested in
     let made = subst (λ (o : Order). Makes (plan_of o) before.store.files done.product) (sym same) done.made in
@@ -84,8 +87,8 @@ route_done valid accepted redwork order before after done =
     (route_made order before.store.files done.product made) done.wrote.held
 
 check_done : (order : CheckOrder) (before after : Views) → IsDone stitch (Some (checking order)) before after
-    → IsYesRight order before.store.files
-check_done order before after done =
+    → WhereVisible before.store.files (IsYesRight order)
+check_done order before after done files visible =
     let same = same_order (checking order) done.order done.is_requested in
     let made = subst (λ (o : Order). Makes (plan_of o) before.store.files done.product) (sym same) done.made in
     let drawing = parsed_made drawing_of order.drawing (check_drawing order) before.store.files done.product (λ fault never. never) made in
@@ -97,9 +100,9 @@ check_done order before after done =
       drawing_file = drawing.bytes;
       design_file = design.bytes;
       cert_file = cert.bytes;
-      drawing_held = drawing.content.held;
-      design_held = design.content.held;
-      cert_held = cert.content.held;
+      drawing_held = drawing.content.held files visible;
+      design_held = design.content.held files visible;
+      cert_held = cert.content.held files visible;
       d = drawing.value;
       loaded = design.value;
       certs = cert.value;

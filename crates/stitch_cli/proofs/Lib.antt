@@ -20,3 +20,8 @@ mod RefutedFacts
 mod ProductFacts
 mod HeadlineLemmas
 mod HeadlineFacts
+pub mod SquareRoute
+pub mod SmallestFacts
+pub mod RouteLeftFacts
+mod RefutedRouteFacts
+mod StitchRunLemmas

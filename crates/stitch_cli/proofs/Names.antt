@@ -26,7 +26,7 @@ pub use Rattle.line_graph.specs.declared.piece.Piece.{Piece}
 pub use Rattle.design_model.specs.TextLines.{newline}
 pub use Rattle.odd_cuts.specs.Certificates.{walks_of}
 pub use Rattle.odd_cuts.specs.declared.certificate.PieceCert.{PieceCert}
-pub use Rattle.outside_io.specs.Files.{FileHolds, Files}
+pub use Rattle.outside_io.specs.Files.{Files, WhereVisible}
 pub use Rattle.outside_io.specs.Views.{StoreView}
 pub use Rattle.program_shell.proofs.CallerLemmas.{IsParsedMade, IsSoundPlan, accepts_sound, can_finish, ends, named, parsed_made}
 pub use Rattle.program_inputs.proofs.CallerLemmas.{settles_found}

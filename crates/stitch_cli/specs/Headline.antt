@@ -8,13 +8,15 @@ use Rattle.drawing_text.specs.DrawingText.{drawing_of}
 use Rattle.format_traits.specs.declared.loaded.Loaded.{Loaded}
 use Rattle.format_traits.specs.Meanings.{Meaning}
 use Rattle.line_graph.specs.Drawings.{DrawingValue}
-use Rattle.outside_io.specs.Files.{Files, FileHolds}
+use Rattle.outside_io.specs.Files.{Files, WhereVisible}
 use Rattle.program_shell.specs.declared.status.Status.{Status}
 use Rattle.program_shell.specs.declared.status.Status.TheVariants as status
 use Rattle.program_shell.specs.ProgramRuns.{RunEnds}
 use Rattle.program_shell.specs.RunViews.{Views}
 use Rattle.route_verdict.specs.declared.sewing_ways.Sewing.TheVariants as ways
+use Rattle.route_verdict.specs.declared.verdict.Verdict.TheVariants as verdict
 use Rattle.route_verdict.specs.LeastRedwork.{IsLeastRedwork, IsLeastRoute}
+use Rattle.route_verdict.specs.Verdicts.{IsVerdict}
 use Rattle.stitch_cli.specs.Checks.{CheckOrder}
 use Rattle.stitch_cli.specs.Commands.{Order, stitch, checking, sewing}
 use Rattle.stitch_cli.specs.Sewings.{SewingOrder}
@@ -28,13 +30,14 @@ pub record FilesSay (format : Meaning) (drawing_file design_file cert_file : Lis
 
 -- What is left after `route`: the design file, read again, is a least route of the drawing that the
 -- drawing file said, within the limit of its format and to its end, as the certificate file proves.
-pub record IsRouteLeft (order : SewingOrder) (before after : Option Files) : Type 0 where
+-- The verdict on the three files is yes.
+pub record IsRouteLeft (order : SewingOrder) (before after : Files) : Type 0 where
   pub drawing_file : List ℕ
   pub design_file : List ℕ
   pub cert_file : List ℕ
-  pub drawing_held : FileHolds before order.drawing drawing_file
-  pub design_held : FileHolds after order.out design_file
-  pub cert_held : FileHolds after order.cert cert_file
+  pub drawing_held : before order.drawing ≡ Some drawing_file
+  pub design_held : after order.out ≡ Some design_file
+  pub cert_held : after order.cert ≡ Some cert_file
   pub d : DrawingValue
   pub loaded : Loaded
   pub certs : List PieceCert
@@ -42,32 +45,35 @@ pub record IsRouteLeft (order : SewingOrder) (before after : Option Files) : Typ
   pub ended : loaded.ended ≡ true
   pub least : IsLeastRoute d loaded.design certs order.format.limit
       (order.format.moves design_file)
+  pub judged : IsVerdict d loaded.design certs verdict.Yes
 
 -- What the yes of `check` says of the three files, whoever made them: the design is least redwork.
-pub record IsYesRight (order : CheckOrder) (files : Option Files) : Type 0 where
+pub record IsYesRight (order : CheckOrder) (files : Files) : Type 0 where
   pub drawing_file : List ℕ
   pub design_file : List ℕ
   pub cert_file : List ℕ
-  pub drawing_held : FileHolds files order.drawing drawing_file
-  pub design_held : FileHolds files order.file design_file
-  pub cert_held : FileHolds files order.cert cert_file
+  pub drawing_held : files order.drawing ≡ Some drawing_file
+  pub design_held : files order.file ≡ Some design_file
+  pub cert_held : files order.cert ≡ Some cert_file
   pub d : DrawingValue
   pub loaded : Loaded
   pub certs : List PieceCert
   pub say : FilesSay order.format drawing_file design_file cert_file d loaded certs
   pub least : IsLeastRedwork d loaded.design certs
 
--- Where a `route` is requested and the run is done, it leaves a least route.
+-- Where a `route` is requested and the run is done, it leaves a least route, if files are visible.
 abbrev pub RoutesLeast : Option Order → (before after : Views) → Status → Type 0
 RoutesLeast requested before after s = (order : SewingOrder)
     → requested ≡ Some (sewing ways.Route order) → s ≡ status.Done
-    → IsRouteLeft order before.store.files after.store.files
+    → WhereVisible before.store.files (λ old. WhereVisible after.store.files (λ new.
+    IsRouteLeft order old new))
 
--- Where a `check` is requested and the run is done, the three files were of least redwork.
+-- Where a `check` is requested and the run is done, the three files were of least redwork, if files
+-- are visible.
 abbrev pub ChecksRightly : Option Order → (before : Views) → Status → Type 0
 ChecksRightly requested before s = (order : CheckOrder)
     → requested ≡ Some (checking order) → s ≡ status.Done
-    → IsYesRight order before.store.files
+    → WhereVisible before.store.files (IsYesRight order)
 
 -- What each run guarantees of routes and checks, as its outcome says.
 abbrev pub OutcomesMeanHeadline : Type 0

@@ -40,4 +40,6 @@ pub mod Rewrites
 pub mod Commands
 -- What is left after `route`, and what a yes says.
 pub mod Headline
+-- What a run guarantees with the five formats.
+pub mod StitchRuns
 pub mod RewriteSteps

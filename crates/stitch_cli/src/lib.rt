@@ -15,6 +15,7 @@ mod running;
 mod sampling;
 mod sewing;
 mod showing;
+mod stitch_run;
 mod tracing;
 
 pub use command_words::{Request, request};
@@ -24,3 +25,4 @@ pub use program_texts::USAGE;
 pub use route_texts::{PieceReport, Summary};
 pub use running::{name, run};
 pub use sample_drawings::sample_drawing;
+pub use stitch_run::run_stitch;
