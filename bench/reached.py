@@ -23,7 +23,7 @@ TOKEN = re.compile(r"[^\s(){},;]+")
 USE = re.compile(r"(?:pub |ghost )?use Rattle\.([\w.]+?)(?:\.\{([^}]*)\}| as (\w+));?$")
 HOME = os.path.join(os.path.dirname(os.path.abspath(__file__)), "..", "crates")
 NAMES = ("route_verdict/LeastRedwork.IsLeastRoute", "route_verdict/LeastRedwork.IsLeastRedwork",
-         "stitch_cli/Headline.IsRouteLeft", "program_shell/ProgramRuns.RunEnds", "stitch_cli/src/running.rt:run", "specs")
+         "stitch_cli/Headline.IsRouteLeft", "program_shell/ProgramRuns.RunEnds", "stitch_cli/StitchRuns.IsStitchRun", "specs")
 FILES = {}
 
 
@@ -157,4 +157,5 @@ def main():
               f"{len(found['std'])} words of std, {len(found['type'])} Rust types, {len(found['constant'])} constants")
 
 
-main()
+if __name__ == "__main__":
+    main()

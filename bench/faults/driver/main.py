@@ -35,7 +35,7 @@ def built_over_memory():
         text = file.read()
     libraries = text.split("\nstitch: ")[1].splitlines()[0]
     with open(os.path.join(top, "crates.txt"), "w") as file:
-        file.write(text.split("\nstitch: ")[0] + f"\nover_memory: {libraries}\n")
+        file.write(text.split("\nstitch: ")[0] + f"\nover_memory: {libraries} outside_io\n")
     # what was proved and built of a library is kept in out/rlib, and is taken with it
     for name in os.listdir(os.path.join(HOME, "crates")):
         for part in ("src", "specs", "proofs", "out/rlib"):
