@@ -1,0 +1,3 @@
+mod SamenessLemmas
+mod ThreadLemmas
+mod DifferenceFacts

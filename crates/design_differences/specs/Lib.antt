@@ -1,0 +1,3 @@
+-- Read this one first: the first difference of two designs.
+pub mod Differences
+pub mod Sameness

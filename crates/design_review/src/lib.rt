@@ -1,0 +1,25 @@
+//! What a design has before it is sewn: for each block its needles and its thread, and the places that were probably not
+//! meant: stitches that are too short or too long, floats, needles in one hole, threads that aren't tied, blocks without a
+//! needle, stops at which the frame moves.
+#![tactic(auto)]
+
+mod crowds;
+mod frame_moves;
+mod key_windows;
+mod limits;
+mod needle_keys;
+mod needle_points;
+mod open_block;
+mod place;
+mod reported_holes;
+mod reviewing;
+mod sewn;
+mod sewn_blocks;
+mod straight_lengths;
+mod ties;
+
+pub use limits::ReviewLimits;
+pub use open_block::{BlockSummaries, BlockSummary};
+pub use place::{DesignPlace, DesignPlaces};
+pub use reviewing::review;
+pub use sewn_blocks::block_summaries;

@@ -1,0 +1,15 @@
+/// The limits of a review: `hole` is a number of needles, and the others are lengths in tenths of a millimetre. A limit of 0
+/// looks for no place of its kind.
+#[derive(Clone, Copy, Debug, PartialEq)]
+pub struct ReviewLimits {
+    /// Stitches that are shorter are places.
+    pub short: u32,
+    /// Stitches that are longer are places.
+    pub long: u32,
+    /// Floats that are longer are places.
+    pub float: u32,
+    /// The longest stitch there and back that ties a thread.
+    pub tie: u32,
+    /// As many needles in one hole are a place.
+    pub hole: u32,
+}
