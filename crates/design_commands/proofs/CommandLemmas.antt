@@ -1,0 +1,65 @@
+-- What is proved of each command: its plan decides, and its products have no output.
+use Rattle.std.proofs.Common.{◌≡◌, true, false, Bool, List, [], ◌∷◌, Option, Some, None, Result}
+use Rattle.design_differences.specs.declared.difference.ActDifference.{ActDifference}
+use Rattle.design_differences.specs.declared.difference.ThreadDifference.{ThreadDifference}
+use Rattle.design_differences.specs.Differences.{act_difference_of, thread_difference_of}
+use Rattle.design_model.specs.Designs.{DesignValue}
+use Rattle.design_review.specs.declared.place.DesignPlace.{DesignPlace}
+use Rattle.design_review.specs.Places.{places_of}
+use Rattle.program_shell.proofs.CallerLemmas.{IsSoundPlan, accepts_sound, ends, named, parses_sound, program_sound, refuses_sound}
+use Rattle.outside_io.specs.Views.{SinkView, StoreView}
+use Rattle.program_shell.specs.ExactPlans.{IsSoundProgram}
+use Rattle.program_shell.specs.FinishedRuns.{FinishesRun}
+use Rattle.program_shell.specs.ProgramRuns.{RunEnds}
+use Rattle.program_shell.specs.RunViews.{Views, views_of}
+use Rattle.program_shell.specs.StepOutcomes.{RunsRequest}
+use Rattle.program_shell.specs.declared.failure.Failure.{Failure}
+use Rattle.program_shell.specs.declared.product.Product.{Product}
+use Rattle.program_shell.specs.declared.status.Status.{Status}
+use Rattle.design_commands.specs.Commands.{DesignOrder, comparing, design_outputs_of, design_plan_of, listing, looking, passing, stitch_design_after, telling}
+use Rattle.design_commands.specs.CompareOrders.{CompareOrder, compare_first, compare_second, compared, compared_acts, compared_threads}
+use Rattle.design_commands.specs.Mistakes.{MistakenWord}
+use Rattle.design_commands.specs.ReviewOrders.{ReviewOrder, design_look_read, pass_read, passed_by_places}
+use Rattle.design_commands.specs.ThreadOrders.{threads_read}
+use Rattle.design_commands.specs.Usage.{design_program_name, usage_after}
+
+passed_sound : (order : ReviewOrder) (places : List DesignPlace) → IsSoundPlan [] (passed_by_places order places)
+passed_sound order [] = accepts_sound [] _ (λ product is. named product _ is)
+passed_sound order (p ∷ rest) = refuses_sound [] _
+
+threads_sound : (difference : Option ThreadDifference) → IsSoundPlan [] (compared_threads difference)
+threads_sound None = accepts_sound [] _ (λ product is. named product _ is)
+threads_sound (Some difference) = refuses_sound [] _
+
+acts_sound : (threads : Bool) (first second : DesignValue) (difference : Option ActDifference)
+    → IsSoundPlan [] (compared_acts threads first second difference)
+acts_sound threads first second (Some difference) = refuses_sound [] _
+acts_sound true first second None = threads_sound (thread_difference_of first second)
+acts_sound false first second None = accepts_sound [] _ (λ product is. named product _ is)
+
+-- The plan of each order is sound.
+order_sound : (order : DesignOrder) → IsSoundPlan (design_outputs_of order) (design_plan_of order)
+order_sound (looking order) = parses_sound [] order.file order.format.reads (design_look_read order)
+    (λ loaded. accepts_sound [] _ (λ product is. named product _ is)) (λ fault. refuses_sound [] _)
+order_sound (passing order) = parses_sound [] order.file order.format.reads (pass_read order)
+    (λ loaded. passed_sound order (places_of order.limits loaded.design)) (λ fault. refuses_sound [] _)
+order_sound (comparing order) = parses_sound [] order.first order.first_format.reads (compare_first order)
+    (λ loaded. parses_sound [] order.second order.second_format.reads (compare_second order loaded.design)
+    (λ other. acts_sound order.threads loaded.design other.design (act_difference_of loaded.design other.design))
+    (λ fault. refuses_sound [] _)) (λ fault. refuses_sound [] _)
+order_sound (listing order) = parses_sound [] order.file order.format.reads (threads_read order)
+    (λ loaded. accepts_sound [] _ (λ product is. named product _ is)) (λ fault. refuses_sound [] _)
+order_sound (telling text) = accepts_sound [] _ (λ product is. named product _ is)
+
+-- The program is sound.
+pub design_sound : (mistake : Option MistakenWord) → IsSoundProgram (stitch_design_after mistake)
+design_sound mistake = program_sound (stitch_design_after mistake) order_sound
+
+-- A run that is finished with the result of its request, and with the usage text after a mistake, ends as specified.
+pub design_ends : (mistake : Option MistakenWord) (requested : Option DesignOrder) (store mid : StoreView) (out err : SinkView)
+    (after : Views) (s : Status) (result : Result Product Failure)
+    → ((m : Option MistakenWord) → RunsRequest (stitch_design_after m) requested store mid result)
+    → FinishesRun design_program_name (usage_after mistake) result (views_of mid out err) after s
+    → RunEnds (stitch_design_after mistake) requested (views_of store out err) after s
+design_ends mistake requested store mid out err after s result runs finishes =
+    ends (stitch_design_after mistake) (design_sound mistake) requested store mid out err after s result (runs mistake) finishes

@@ -1,0 +1,8 @@
+use Rattle.std.proofs.Common.{◌∙◌, refl}
+use Rattle.std.proofs.lemmas.Str.Ascii.{trim_ascii_end_is}
+use Rattle.design_commands.specs.ThreadNames.{name_of_thread}
+use Rattle.design_commands.proofs.thread_names.thread_name.Goals as goal
+
+pub returns : goal.returns
+unfolding name_of_thread
+returns c = trim_ascii_end_is _ _ c.trim_ascii_end.ensures.value ∙ rw (c.split_at-2.ensures.front, c.split_at.ensures.back) refl

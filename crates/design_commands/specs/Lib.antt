@@ -1,0 +1,17 @@
+-- Definitions of a lower crate that public clauses cite.
+pub use Rattle.program_shell.specs.ProgramRuns
+pub use Rattle.program_shell.specs.RunViews
+pub mod ThreadNames
+pub mod Mistakes
+pub mod LimitWords
+pub mod Requests
+pub mod Usage
+pub mod PlaceTexts
+pub mod LookTexts
+pub mod ThreadTexts
+pub mod DifferenceTexts
+pub mod ReviewOrders
+pub mod ThreadOrders
+pub mod CompareOrders
+-- Read this one first: the commands, their plans, and the program.
+pub mod Commands

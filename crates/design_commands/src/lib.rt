@@ -1,0 +1,26 @@
+//! The commands of `stitch_design`: their arguments, their plans, what they print, and `run`.
+#![tactic(auto)]
+
+mod commands;
+mod comparing;
+mod design_run;
+mod difference_texts;
+mod limit_words;
+mod listing;
+mod look_texts;
+mod looking;
+mod mistake;
+mod passing;
+mod place_texts;
+mod requests;
+mod running;
+mod thread_names;
+mod thread_texts;
+mod usage;
+
+pub use design_run::run_design;
+pub use limit_words::MAX_LIMIT;
+pub use mistake::{Misfit, Mistake};
+pub use program_shell::Status;
+pub use requests::{DesignRequest, request};
+pub use running::{NAME, run};

@@ -1,0 +1,5 @@
+mod compare_runs;
+mod place_runs;
+mod shop_files;
+mod table_runs;
+mod usage_runs;
