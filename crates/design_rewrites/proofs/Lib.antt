@@ -1,0 +1,4 @@
+pub mod Names
+pub mod CallerLemmas
+mod OrderLemmas
+mod OrderFacts

@@ -1,0 +1,18 @@
+//! Edits of a design, one after another: what they make of it, and the arguments that they are written as.
+#![tactic(auto)]
+
+mod applied;
+mod design_edit;
+mod design_fault;
+mod edit_arguments;
+mod edit_keys;
+mod edit_mistakes;
+mod in_order;
+
+pub use applied::edit_design;
+pub use design_edit::DesignEdit;
+pub use design_fault::{BadDesignEdit, DesignFault};
+pub use edit_arguments::{are_design_edits, parse_design_edit, parse_design_edits};
+pub use edit_keys::{DEFAULT_TIE, EditKey, MAX_MERGE, edit_key};
+pub use edit_mistakes::{EditMistake, edit_mistake, first_mistaken_edit};
+pub use in_order::{edit_by_arguments, edit_in_order};

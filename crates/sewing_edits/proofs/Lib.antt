@@ -1,0 +1,10 @@
+pub mod Names
+pub mod CutLemmas
+pub mod CarryLemmas
+pub mod MergeLemmas
+pub mod BeanLemmas
+pub mod ScaleLemmas
+pub mod ExtentLemmas
+pub mod BlockLemmas
+pub mod ThreadLemmas
+mod SewingFacts

@@ -1,0 +1,9 @@
+pub mod FloatCuts
+pub mod CarriedTrims
+pub mod Merges
+pub mod Beans
+pub mod Scales
+pub mod ScaleSteps
+pub mod Centres
+pub mod EmptyBlocks
+pub mod EmptyBlockSteps

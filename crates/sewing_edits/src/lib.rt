@@ -1,0 +1,29 @@
+//! Edits of what a design sews: long floats cut, short trims carried over, near needles left out, stitches sewn there and
+//! back, and designs scaled and centred.
+#![tactic(auto)]
+
+mod beans;
+mod carried_trims;
+mod centres;
+mod empty_blocks;
+mod float_cuts;
+mod float_theorems;
+mod merges;
+mod needle_theorems;
+mod scales;
+
+pub use beans::{MAX_BEAN, bean};
+pub use carried_trims::carry;
+pub use centres::centre;
+pub use empty_blocks::drop_empty;
+pub use float_cuts::{MAX_REACH, cut};
+pub use float_theorems::{
+    carry_keeps_needles, carry_keeps_order, carry_leaves_no_near_trim, cut_keeps_needles,
+    cut_keeps_order, cut_leaves_no_long_float,
+};
+pub use merges::merge;
+pub use needle_theorems::{
+    bean_keeps_order, bean_keeps_points, merge_keeps_ends, merge_keeps_order,
+    merge_leaves_no_short_stitch, needled_blocks_stay, scales_to_nearest,
+};
+pub use scales::{MAX_SCALE, ScaleFault, scale};
