@@ -1,5 +1,5 @@
 # make help lists the targets. The programs run by themselves: they need the C library alone.
-VERSION = 0.3.0
+VERSION = 0.4.0
 prefix ?= /usr/local
 PREFIX ?= $(prefix)
 ifeq ($(origin prefix),command line)
