@@ -1,4 +1,4 @@
--- What the headline keeps out: for each field of its records, a thread, a certificate or files of the square that it refuses.
+-- What the headline keeps out: threads, certificates and files of the square that its records refuse.
 use Rattle.std.proofs.Common.{◌≡◌, ℕ, ◌+◌, true, List, [], ◌∷◌, ◌++◌, Option, Some, None, Ok, bytes_eq, codes, if◌then◌else◌, arith, sym, subst}
 use Rattle.std.proofs.lemmas.List.Elements.{All-head}
 use Rattle.dst_codec.specs.Format.{dst_meaning}
