@@ -1,0 +1,16 @@
+-- Worked usage texts.
+use Rattle.std.proofs.Common.{◌≡◌, ◌++◌, ◌∷◌, [], Some, None, codes, replicate, refl}
+use Rattle.design_model.specs.TextLines.{newline}
+use Rattle.companion_words.specs.MistakenWords.{mistaken}
+use Rattle.companion_words.specs.UsageTexts.{shown_word, usage_with, version_line}
+
+-- After a mistake a line with the argument and the reason precedes the usage text.
+pub known_usage : (usage_with (codes "sew") (codes "usage: sew") (Some (mistaken (codes "rip") (codes "not a command")))
+    ≡ codes "sew: rip: not a command" ++ newline ++ codes "usage: sew")
+    × (usage_with (codes "sew") (codes "usage: sew") None ≡ codes "usage: sew")
+    × (version_line (codes "sew") ≡ codes "sew 0.4.0" ++ newline)
+known_usage = (refl, refl, refl)
+
+-- Of a long argument the first 200 bytes are shown.
+pub known_shown : (shown_word (replicate 200 65 ++ 66 ∷ []) ≡ replicate 200 65) × (shown_word (codes "rip") ≡ codes "rip")
+known_shown = (refl, refl)

@@ -1,0 +1,2 @@
+pub mod MistakenWords
+pub mod UsageTexts
