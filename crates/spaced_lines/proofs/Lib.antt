@@ -3,6 +3,9 @@ mod SpacedFacts
 mod SpacedAnswerFacts
 mod SpacingLawFacts
 pub mod JunctionLemmas
+pub mod BestLemmas
+pub mod ChoiceLemmas
+pub mod ReversedLemmas
 pub mod SpacingLemmas
 pub mod SharedLemmas
 pub mod SavedLemmas

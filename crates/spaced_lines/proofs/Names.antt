@@ -24,11 +24,18 @@ pub use Rattle.line_sections.specs.Sections.{all_sections, but_last, has_points,
 pub use Rattle.line_sections.specs.Sections.{lines_through, listed_in, sections_from, sections_of, sections_with_first}
 pub use Rattle.line_sections.specs.Spots.{is_same_spot}
 pub use Rattle.line_sections.specs.declared.spot.Spot.{Spot}
-pub use Rattle.design_model.proofs.ListLemmas.{and_false, either_way, first_true, second_true}
-pub use Rattle.spaced_lines.specs.SpacedAnswers.{SpacedLinesKeepLimits, SpacingRefusesNone, with_lines_spaced}
-pub use Rattle.spaced_lines.specs.SpacedDrawings.{space_of, spaced_and_joined}
-pub use Rattle.spaced_lines.specs.SpacedLines.{comes_near_all, is_spot_of, is_stitch_for, kept_after, leeway_of, may_leave_out, spaced_line}
-pub use Rattle.spaced_lines.specs.SpacedLines.{spaced_lines, spaced_points}
-pub use Rattle.spaced_lines.specs.SpacingLaws.{EachPointSavesAStep, PiecesStay, SectionsKeepEnds, SharedPointsAreJunctions}
-pub use Rattle.spaced_lines.specs.SpacingLaws.{SpacedLinesAreLines, StandFor}
+pub use Rattle.design_model.proofs.ListLemmas.{all_right, and_false, either_way, first_true, second_true}
+pub use Rattle.spaced_lines.specs.SpacedAnswers.{SpacedLinesKeepLimits, SpacingRefusesNone}
+pub use Rattle.spaced_lines.specs.SpacedDrawings.{space_of, spaced_and_joined, with_lines_spaced}
+pub use Rattle.spaced_lines.specs.BestChoices.{IsWithin, best_from, best_over, best_with, bests_of, better_with, is_better}
+pub use Rattle.spaced_lines.specs.BestChoices.{kept_by, no_stitch, room_after, room_of}
+pub use Rattle.spaced_lines.specs.Choices.{IsBestChoice, IsChoice, IsStretch, square_sum, stitch_count}
+pub use Rattle.spaced_lines.specs.SpacedLines.{is_spot_of, spaced_line, spaced_lines, spaced_points}
+pub use Rattle.spaced_lines.specs.SpacingLaws.{EachPointSavesAStep, KeptPointsAreBest, PiecesStay, ReversedLinesAreAsGood}
+pub use Rattle.spaced_lines.specs.SpacingLaws.{SectionsKeepEnds, SharedPointsAreJunctions, SpacedLinesAreLines}
+pub use Rattle.spaced_lines.specs.SpacingRules.{comes_near_all, does_none_stay, is_stitch_for, leeway_of, may_leave_out, rule_of}
+pub use Rattle.spaced_lines.specs.declared.best.Best.{Best}
+pub use Rattle.spaced_lines.specs.declared.spacing_rule.SpacingLimits.{SpacingLimits}
+pub use Rattle.spaced_lines.specs.declared.spacing_rule.SpacingRule.{SpacingRule}
+pub use Rattle.spaced_lines.specs.declared.spacing_rule.TheConstants.{MAX_LEFT_OUT}
 pub use Rattle.step_splitter.specs.Chains.{HasNoRepeatAfter, IsNeedlePoint, SplitPointsLead, last_point_or}

@@ -71,5 +71,5 @@ pieces_alike d e same pieces are = record {
 
 -- The pieces of a spaced drawing are those of the drawing.
 pub pieces_stay : PiecesStay
-pieces_stay d pieces are = pieces_alike (record d { lines = all_sections d.lines })
-    (record d { lines = all_sections (spaced_lines d.step d.lines) }) (sym (sections_keep_ends d.step d.lines)) pieces are
+pieces_stay rule d pieces are = pieces_alike (record d { lines = all_sections d.lines })
+    (record d { lines = all_sections (spaced_lines rule d.lines) }) (sym (sections_keep_ends rule d.lines)) pieces are

@@ -1,7 +1,7 @@
 -- A drawing that can be joined and get starts and ends can be spaced with them.
 use Rattle.std.proofs.Common.{◌≡◌, ◌∙◌, ℕ, suc, ◌+◌, ◌≤◌, ◌==◌, ◌&&◌, ◌||◌, not, nat_lt, Bool, true, false, List, [], ◌∷◌, ◌++◌, length, map, All, Result, Ok, Err, if◌then◌else◌, refl, ap, sym, arith}
 use Rattle.std.proofs.lemmas.Result.{IfOk-at_ok}
-use Rattle.spaced_lines.proofs.Names.{nat_tests, length-map, All-head, All-tail, sum_by-cons, flat_map, list_any, Point, is_same_point, DrawingValue, endpoints, point_count, end_spots, is_junction, Spot, LineValue, all_sections, has_points, is_shared_point, line_sections, lines_through, sections_from, sections_of, sections_with_first, is_same_spot, SpacedLinesKeepLimits, spaced_line, spaced_lines, SectionsKeepEnds, fun_ext, length-append, sum_by-append, and_then, are_connected_spots, merged_representative, representative, spot_added, SpacingRefusesNone, with_lines_spaced, spaced_and_joined, and_false}
+use Rattle.spaced_lines.proofs.Names.{nat_tests, length-map, All-head, All-tail, sum_by-cons, flat_map, list_any, Point, is_same_point, DrawingValue, endpoints, point_count, end_spots, is_junction, Spot, LineValue, all_sections, has_points, is_shared_point, line_sections, lines_through, sections_from, sections_of, sections_with_first, is_same_spot, SpacedLinesKeepLimits, spaced_line, spaced_lines, SectionsKeepEnds, fun_ext, length-append, sum_by-append, and_then, are_connected_spots, merged_representative, representative, spot_added, SpacingRefusesNone, with_lines_spaced, spaced_and_joined, and_false, rule_of, SpacingRule}
 use Rattle.drawing_edits.specs.RedrawnDrawings.{with_starts_and_ends, with_walk_ends}
 use Rattle.drawing_edits.specs.ValidRedraws.{LinesWithinLimitsAreDrawn}
 use Rattle.line_graph.specs.declared.draw_kind.DrawKind.{DrawKind}
@@ -174,22 +174,23 @@ fits : (m n limit : ℕ) → m ≤ n → nat_lt limit n ≡ false → nat_lt lim
 fits m n limit less is = grind (arith, nat_tests, less, is)
 
 pub none_refused : LinesWithinLimitsAreDrawn → SpacedLinesKeepLimits → SectionsKeepEnds → SpacingRefusesNone
-none_refused drawn_as keep alike d joined starts ends keeps no_starts no_ends is =
-    let lines : List LineValue = spaced_lines d.step d.lines in
-    let spaced : DrawingValue = with_lines_spaced d in
+none_refused drawn_as keep alike limits d joined starts ends keeps no_starts no_ends is =
+    let rule : SpacingRule = rule_of limits d.step in
+    let lines : List LineValue = spaced_lines rule d.lines in
+    let spaced : DrawingValue = with_lines_spaced limits d in
     let old : List LineValue = all_sections d.lines in
     let new : List LineValue = all_sections lines in
-    let same : map end_spots new ≡ map end_spots old = alike d.step d.lines in
+    let same : map end_spots new ≡ map end_spots old = alike rule d.lines in
     let more : DrawingValue → Result DrawingValue DrawKind = λ whole. with_starts_and_ends whole starts ends in
     let parts = limited_by (nat_lt 1024 (length old)) (nat_lt 65536 (point_count old)) kind.TooManyLines kind.TooManyPoints
     (record d { lines = old }) joined more is in
     let as_many : length new ≡ length old =
     sym (length-map new end_spots) ∙ ap (λ (e : List (List Spot)). length e) same ∙ length-map old end_spots in
     let lines_same : length lines ≡ length d.lines =
-    length-map d.lines (spaced_line (is_junction (all_sections d.lines)) d.step) in
+    length-map d.lines (spaced_line (is_junction (all_sections d.lines)) rule) in
     let size_new = all_size lines lines (grind (arith, nat_tests)) in
     let size_old = all_size d.lines d.lines (grind (arith, nat_tests)) in
-    let fewer = points_less d.step d.lines (grind (arith, nat_tests)) in
+    let fewer = points_less rule d.lines (grind (arith, nat_tests)) in
     let short : point_count new ≤ point_count old = omega (arith, as_many, lines_same, size_new, size_old, fewer) in
     let few : nat_lt 1024 (length new) ≡ false = ap (λ (n : ℕ). nat_lt 1024 n) as_many ∙ parts.0 in
     let small : nat_lt 65536 (point_count new) ≡ false = fits (point_count new) (point_count old) 65536 short parts.1 in
@@ -201,6 +202,6 @@ none_refused drawn_as keep alike d joined starts ends keeps no_starts no_ends is
     ap (λ (s : List Spot). record spaced { starts = s; ends = [] }) (sym no_starts)
     ∙ ap (λ (e : List Spot). record spaced { ends = e }) (sym no_ends) in
     ap (λ (r : Result DrawingValue DrawKind). and_then r (λ (s : DrawingValue). spaced_and_joined s (and_then (joined_drawing s) more)))
-    (drawn_as spaced (keep d keeps) ∙ ap (λ (s : DrawingValue). Ok s) bare)
+    (drawn_as spaced (keep limits d keeps) ∙ ap (λ (s : DrawingValue). Ok s) bare)
     ∙ ap (λ (r : Result DrawingValue DrawKind). spaced_and_joined spaced (and_then r more)) joins
     ∙ ap (λ (r : Result DrawingValue DrawKind). spaced_and_joined spaced r) (both_same old new same d joined starts ends parts.2)

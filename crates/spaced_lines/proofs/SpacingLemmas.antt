@@ -1,96 +1,90 @@
--- What spacing keeps of a line, by cases on whether a point is left out.
-use Rattle.std.proofs.Common.{◌≡◌, ◌∙◌, ℕ, ◌⊎◌, inl, inr, Bool, true, false, not, ◌&&◌, cond, nat_le, List, [], ◌∷◌, ◌++◌, filter, if◌then◌else◌, refl, ap, sym, subst, append_assoc, arith}
-use Rattle.spaced_lines.proofs.Names.{nat_tests, list_all, Point, is_same_point, grid_point, is_near, endpoints, last_point_or, distance_between, is_stitch_for, kept_after, leeway_of, spaced_points, StandFor, first_true, second_true, list_all-append, may_leave_out}
-use Rattle.drawing_repairs.specs.Listings.{segment_between}
+-- What spacing keeps of a line, by its stitches.
+use Rattle.std.proofs.Common.{◌≡◌, ◌∙◌, Bool, true, false, not, cond, List, [], ◌∷◌, ◌++◌, filter, refl, ap, sym, subst, arith}
+use Rattle.spaced_lines.proofs.Names.{nat_tests, Point, bests_of, does_none_stay, endpoints, first_true, is_stitch_for, kept_by, last_point_or, may_leave_out, second_true, spaced_points, IsChoice, SpacingRule}
+use Rattle.spaced_lines.proofs.BestLemmas.{best_of, first_best}
 
--- What holds of the last point alone, and passes from the points kept after a point that is left out, or kept, to all those with it,
--- holds of the points that a line keeps.
-module _ (stays : Point → Bool) (step : ℕ) (P : (a : Point) (since : List Point) (p : Point) (rest kept : List Point) → Type 0) where
-  kept_by : (a : Point) (since : List Point) (p b : Point) (rest : List Point) (out : Bool) → may_leave_out stays step a since p b ≡ out
-      → (may_leave_out stays step a since p b ≡ true → P a since p (b ∷ rest) (kept_after stays step a (since ++ p ∷ []) b rest))
-      → P a since p (b ∷ rest) (p ∷ kept_after stays step p [] b rest) → P a since p (b ∷ rest)
-      (if out then kept_after stays step a (since ++ p ∷ []) b rest else p ∷ kept_after stays step p [] b rest)
-  kept_by a since p b rest true is left kept = left is
-  kept_by a since p b rest false is left kept = kept
+-- the points of a line after its first one
+abbrev tail : List Point → List Point
+tail [] = []
+tail (p ∷ rest) = rest
 
-  pub of_kept : ((a : Point) (since : List Point) (p : Point) → P a since p [] (p ∷ []))
-      → ((a : Point) (since : List Point) (p b : Point) (rest : List Point) → may_leave_out stays step a since p b ≡ true
-      → P a (since ++ p ∷ []) b rest (kept_after stays step a (since ++ p ∷ []) b rest)
-      → P a since p (b ∷ rest) (kept_after stays step a (since ++ p ∷ []) b rest))
-      → ((a : Point) (since : List Point) (p b : Point) (rest : List Point) → P p [] b rest (kept_after stays step p [] b rest)
-      → P a since p (b ∷ rest) (p ∷ kept_after stays step p [] b rest))
-      → (a : Point) (since : List Point) (p : Point) (rest : List Point) → P a since p rest (kept_after stays step a since p rest)
-  of_kept last left keep a since p [] = last a since p
-  of_kept last left keep a since p (b ∷ rest) = kept_by a since p b rest (may_leave_out stays step a since p b) refl
-      (λ is. left a since p b rest is (of_kept last left keep a (since ++ p ∷ []) b rest))
-      (keep a since p b rest (of_kept last left keep p [] b rest))
+-- the points that a line keeps after its first one, p
+abbrev pub kept_after : (Point → Bool) → SpacingRule → (p : Point) → List Point → List Point
+kept_after stays rule p rest = kept_by (first_best (bests_of stays rule (p ∷ rest))).left_out rest (bests_of stays rule rest)
 
--- the test of a point that is left out
-pub untested : (stays : Point → Bool) (step : ℕ) (a : Point) (since : List Point) (p b : Point)
-    → may_leave_out stays step a since p b ≡ true → stays p ≡ false
-untested stays step a since p b is = grind (arith, nat_tests, (first_true (not (stays p)) (is_stitch_for step a b (p ∷ since)) is))
+-- What holds of one point, and passes from the points after a stitch to those with it, holds of the points that a line keeps.
+module _ (stays : Point → Bool) (rule : SpacingRule) (P : (a : Point) (points kept : List Point) → Type 0) where
+  of_choice : ((a : Point) → P a [] [])
+      → ((a b : Point) (out after kept : List Point) → may_leave_out stays rule a out b ≡ true → P b after kept
+      → P a (out ++ b ∷ after) (b ∷ kept))
+      → (a : Point) (kept points : List Point) → IsChoice stays rule (a ∷ kept) points
+      → (more : List Point) × (points ≡ a ∷ more) × P a more kept
+  of_choice last next a [] points is = ([], is, last a)
+  of_choice last next a (b ∷ kept) points (after, stretch, later) =
+      let begun = of_choice last next b kept after later in (
+        stretch.out ++ b ∷ begun.0,
+        stretch.parts ∙ ap (λ (ps : List Point). a ∷ (stretch.out ++ ps)) begun.1,
+        next a b stretch.out begun.0 kept stretch.allowed begun.2,
+      )
 
-and_turned : (a b : Bool) → (a && (b && true)) ≡ (b && a)
-and_turned a b = grind (arith, nat_tests)
+  pub of_kept : ((a : Point) → P a [] [])
+      → ((a b : Point) (out after kept : List Point) → may_leave_out stays rule a out b ≡ true → P b after kept
+      → P a (out ++ b ∷ after) (b ∷ kept))
+      → (a : Point) (points : List Point) → P a points (kept_after stays rule a points)
+  of_kept last next a points =
+      let is = of_choice last next a (kept_after stays rule a points) (a ∷ points) (best_of stays rule a points).chosen in
+      subst (λ (ps : List Point). P a ps (kept_after stays rule a points)) (sym (ap tail is.1)) is.2
 
--- a segment comes near a point
-abbrev comes_by : ℕ → (a b p : Point) → Bool
-comes_by step a b p = is_near (leeway_of step) (grid_point p) (segment_between a b)
+-- none of the points that are left out stays
+pub untested : (stays : Point → Bool) (rule : SpacingRule) (a : Point) (out : List Point) (b : Point)
+    → may_leave_out stays rule a out b ≡ true → does_none_stay stays out ≡ true
+untested stays rule a [] b may = refl
+untested stays rule a (p ∷ out) b may = first_true (does_none_stay stays (p ∷ out)) _ may
 
--- a stitch stands for points in another order
-stitch_with : (step : ℕ) (a b p : Point) (since : List Point) → is_stitch_for step a b (p ∷ since) ≡ true
-    → is_stitch_for step a b (since ++ p ∷ []) ≡ true
-stitch_with step a b p since is =
-    ap (λ (near : Bool). not (is_same_point a b) && (nat_le (distance_between a b) step && near))
-    (list_all-append (comes_by step a b) since (p ∷ [])
-    ∙ and_turned (list_all (comes_by step a b) since) (comes_by step a b p)) ∙ is
+-- one stitch stands for the points that are left out
+pub left_out_stitch : (stays : Point → Bool) (rule : SpacingRule) (a p : Point) (out : List Point) (b : Point)
+    → may_leave_out stays rule a (p ∷ out) b ≡ true → is_stitch_for rule a b (p ∷ out) ≡ true
+left_out_stitch stays rule a p out b may = second_true _ (is_stitch_for rule a b (p ∷ out)) (second_true (does_none_stay stays
+    (p ∷ out)) _ may)
 
-pub left_out_stitch : (stays : Point → Bool) (step : ℕ) (a : Point) (since : List Point) (p b : Point)
-    → may_leave_out stays step a since p b ≡ true → is_stitch_for step a b (p ∷ since) ≡ true
-left_out_stitch stays step a since p b is = second_true (not (stays p)) (is_stitch_for step a b (p ∷ since)) is
+pub untested_first : (stays : Point → Bool) (p : Point) (out : List Point) → does_none_stay stays (p ∷ out) ≡ true → stays p ≡ false
+untested_first stays p out h1 = grind (arith, nat_tests)
 
--- one stitch stands for the points left out so far
-abbrev StitchSoFar : ℕ → (a p : Point) → List Point → Type 0
-StitchSoFar step a p since = (since ≡ []) ⊎ (is_stitch_for step a p since ≡ true)
+pub untested_rest : (stays : Point → Bool) (p : Point) (out : List Point) → does_none_stay stays (p ∷ out) ≡ true
+    → does_none_stay stays out ≡ true
+untested_rest stays p out is = second_true (not (stays p)) (does_none_stay stays out) is
 
-stand_after : (stays : Point → Bool) (step : ℕ) (a : Point) (since : List Point) (p : Point) (rest : List Point)
-    → StitchSoFar step a p since → StandFor step (a ∷ kept_after stays step a since p rest) (a ∷ (since ++ p ∷ rest))
-stand_after stays step =
-    of_kept stays step (λ a since p rest kept. StitchSoFar step a p since → StandFor step (a ∷ kept) (a ∷ (since ++ p ∷ rest)))
-    (λ a since p so. (p ∷ [], record { out = since; parts = refl; stitch = so }, refl))
-    (λ a since p b rest is left so.
-    subst (λ (ps : List Point). StandFor step (a ∷ kept_after stays step a (since ++ p ∷ []) b rest) (a ∷ ps))
-    (append_assoc since (p ∷ []) (b ∷ rest))
-    (left (inr (stitch_with step a b p since (left_out_stitch stays step a since p b is)))))
-    (λ a since p b rest kept so. (p ∷ b ∷ rest, record { out = since; parts = refl; stitch = so }, kept (inl refl)))
+tested_later : (stays : Point → Bool) (out points : List Point) → does_none_stay stays out ≡ true
+    → filter stays (out ++ points) ≡ filter stays points
+tested_later stays [] points none = refl
+tested_later stays (p ∷ out) points none =
+    ap (λ (t : Bool). cond t (p ∷ filter stays (out ++ points)) (filter stays (out ++ points))) (untested_first stays p out none)
+    ∙ tested_later stays out points (untested_rest stays p out none)
 
--- The points of a spaced line stand for those of the line.
-pub stand_for_all : (stays : Point → Bool) (step : ℕ) (points : List Point) → StandFor step (spaced_points stays step points) points
-stand_for_all stays step [] = refl
-stand_for_all stays step (a ∷ []) = refl
-stand_for_all stays step (a ∷ p ∷ rest) = stand_after stays step a [] p rest (inl refl)
-
-tested_after : (stays : Point → Bool) (step : ℕ) (a : Point) (since : List Point) (p : Point) (rest : List Point)
-    → filter stays (kept_after stays step a since p rest) ≡ filter stays (p ∷ rest)
-tested_after stays step = of_kept stays step (λ a since p rest kept. filter stays kept ≡ filter stays (p ∷ rest)) (λ a since p. refl)
-    (λ a since p b rest is left. left
-    ∙ sym (ap (λ (t : Bool). cond t (p ∷ filter stays (b ∷ rest)) (filter stays (b ∷ rest))) (untested stays step a since p b is)))
-    (λ a since p b rest kept. ap (λ (ps : List Point). cond (stays p) (p ∷ ps) ps) kept)
+tested_after : (stays : Point → Bool) (rule : SpacingRule) (a : Point) (points : List Point)
+    → filter stays (kept_after stays rule a points) ≡ filter stays points
+tested_after stays rule = of_kept stays rule (λ a points kept. filter stays kept ≡ filter stays points) (λ a. refl)
+    (λ a b out after kept may is. ap (λ (ps : List Point). cond (stays b) (b ∷ ps) ps) is
+    ∙ sym (tested_later stays out (b ∷ after) (untested stays rule a out b may)))
 
 -- The points that pass the test stay.
-pub tested_stay : (stays : Point → Bool) (step : ℕ) (points : List Point)
-    → filter stays (spaced_points stays step points) ≡ filter stays points
-tested_stay stays step [] = refl
-tested_stay stays step (a ∷ []) = refl
-tested_stay stays step (a ∷ p ∷ rest) = ap (λ (ps : List Point). cond (stays a) (a ∷ ps) ps) (tested_after stays step a [] p rest)
+pub tested_stay : (stays : Point → Bool) (rule : SpacingRule) (points : List Point)
+    → filter stays (spaced_points stays rule points) ≡ filter stays points
+tested_stay stays rule [] = refl
+tested_stay stays rule (a ∷ points) = ap (λ (ps : List Point). cond (stays a) (a ∷ ps) ps) (tested_after stays rule a points)
 
-last_after : (stays : Point → Bool) (step : ℕ) (a : Point) (since : List Point) (p : Point) (rest : List Point) (x : Point)
-    → last_point_or x (kept_after stays step a since p rest) ≡ last_point_or p rest
-last_after stays step = of_kept stays step (λ a since p rest kept. (x : Point) → last_point_or x kept ≡ last_point_or p rest)
-    (λ a since p x. refl) (λ a since p b rest is left x. left x) (λ a since p b rest kept x. kept p)
+last_later : (a : Point) (out : List Point) (b : Point) (after : List Point)
+    → last_point_or a (out ++ b ∷ after) ≡ last_point_or b after
+last_later a [] b after = refl
+last_later a (p ∷ out) b after = last_later p out b after
+
+last_after : (stays : Point → Bool) (rule : SpacingRule) (a : Point) (points : List Point)
+    → last_point_or a (kept_after stays rule a points) ≡ last_point_or a points
+last_after stays rule = of_kept stays rule (λ a points kept. last_point_or a kept ≡ last_point_or a points) (λ a. refl)
+    (λ a b out after kept may is. is ∙ sym (last_later a out b after))
 
 -- The ends of a line stay.
-pub ends_stay : (stays : Point → Bool) (step : ℕ) (points : List Point) → endpoints (spaced_points stays step points) ≡ endpoints points
-ends_stay stays step [] = refl
-ends_stay stays step (a ∷ []) = refl
-ends_stay stays step (a ∷ p ∷ rest) = ap (λ (l : Point). a ∷ l ∷ []) (last_after stays step a [] p rest a)
+pub ends_stay : (stays : Point → Bool) (rule : SpacingRule) (points : List Point)
+    → endpoints (spaced_points stays rule points) ≡ endpoints points
+ends_stay stays rule [] = refl
+ends_stay stays rule (a ∷ points) = ap (λ (l : Point). a ∷ l ∷ []) (last_after stays rule a points)

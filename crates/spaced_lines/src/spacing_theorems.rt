@@ -1,11 +1,16 @@
-ghost use Rattle.spaced_lines.specs.SpacingLaws.{EachPointSavesAStep, EndsOfLinesStay, KeptPointsStandForAll, PiecesStay, SectionsKeepEnds, SharedPointsAreJunctions, SpacedLinesAreLines, TestedPointsStay};
+ghost use Rattle.spaced_lines.specs.SpacingLaws.{EachPointSavesAStep, EndsOfLinesStay, KeptPointsAreBest, PiecesStay, ReversedLinesAreAsGood, SectionsKeepEnds, SharedPointsAreJunctions, SpacedLinesAreLines, TestedPointsStay};
 
 use step_splitter::split_points_lead;
 
-/// Theorem: the points of a spaced line are points of the line in order, and within a leeway of each point
-/// that was left out is the stitch between two of them. The ends stay, and each point that passes the test.
-pub fn spaced_lines_stay_near()
-    ensures near { KeptPointsStandForAll }
+/// Theorem: the points that a spaced line keeps are a best choice of its points: no choice within the rule has
+/// fewer stitches, and none with as few has a smaller sum of squared lengths. From the other end it is as good.
+pub fn spaced_lines_are_best()
+    ensures best { KeptPointsAreBest }
+    ensures reversed { ReversedLinesAreAsGood }
+{}
+
+/// Theorem: a spaced line has the ends of the line, and each point that passes the test.
+pub fn spaced_lines_keep_points()
     ensures tested { TestedPointsStay }
     ensures ends { EndsOfLinesStay }
     ensures shared { SharedPointsAreJunctions }

@@ -1,6 +1,6 @@
 use Rattle.std.proofs.Common.{◌≡◌, length}
 use Rattle.spaced_lines.proofs.Names.{list_all, grid_point, is_near}
-use Rattle.spaced_lines.proofs.spacing.are_near.Given as goal
+use Rattle.spaced_lines.proofs.spacing_rule.are_near.Given as goal
 
 -- all points so far are near, and the result depends on those that are left
 abbrev pub invariant-loop-rest : goal.invariant-loop-rest

@@ -1,0 +1,127 @@
+ghost use Rattle.design_model.specs.declared.point.Point.{Point as PointValue};
+ghost use Rattle.drawing_repairs.specs.Anchors.{distance_between};
+ghost use Rattle.line_sections.specs.Spots.{is_same_spot};
+ghost use Rattle.spaced_lines.specs.BestChoices.{IsWithin, best_from, best_over, bests_of, better_with, room_after, room_of};
+ghost use Rattle.spaced_lines.specs.SpacedLines.{is_spot_of};
+ghost use Rattle.spaced_lines.specs.SpacingRules.{does_none_stay};
+ghost use Rattle.std.specs.HashSet.{contains};
+ghost use Rattle.std.specs.Prelude.{◌≡◌, ℕ, ◌+◌, ◌≤◌, ◌<◌, Bool, true, ◌&&◌, All, IfOk, drop, length, nat_le, nat_lt, take};
+
+use crate::best::{Best, NO_STITCH};
+use crate::spacing_rule::{MAX_LEFT_OUT, SpacingRule, is_stitch};
+use design_model::{Memory, Point};
+use drawing_repairs::distance;
+use line_graph::MAX_POINTS;
+use line_sections::Spot;
+use std::alloc::Global;
+use std::collections::HashSet;
+
+/// Returns the best choice from each point of a line on, where the given spots stay.
+pub fn bests(
+    alloc: Global,
+    rule: SpacingRule,
+    spots: &HashSet<Spot>,
+    block: u32,
+    points: &[Point],
+) -> Result<Vec<Best>, Memory>
+    requires few { length points.now ≤ MAX_POINTS }
+    ensures { IfOk result (λ bests. bests.items
+        ≡ bests_of (is_spot_of (contains is_same_spot spots.now) block) rule points.now) }
+{
+    let mut bests = vec![in alloc; NO_STITCH; points.len()]?;
+    let mut room = 0;
+    let mut i = points.len();
+    while i > 0 {
+        i -= 1;
+        let p = points[i];
+        bests[i] = best_from(rule, room, p, &points[i + 1..], &bests[i + 1..]);
+        room = room_with(spots.contains(&Spot { block, at: p }), room);
+    }
+    Ok(bests)
+}
+
+/// Returns how many points may be left out from one on that stays or not, where those after it are counted.
+fn room_with(stays: bool, room: usize) -> usize
+    requires { room ≤ MAX_LEFT_OUT }
+    ensures { result ≡ room_after stays room }
+{
+    if stays {
+        0
+    } else {
+        (room + 1).min(MAX_LEFT_OUT)
+    }
+}
+
+/// Returns the best choice from `p` on, where the best ones from the points after it on are given, and the number
+/// of these that may be left out.
+fn best_from(rule: SpacingRule, room: usize, p: Point, after: &[Point], bests: &[Best]) -> Best
+    requires sized { length bests.now ≡ length after.now }
+    requires few { length after.now < MAX_POINTS }
+    requires within { All (IsWithin (length after.now)) bests.now }
+    requires most { room ≤ MAX_LEFT_OUT }
+    ensures within { IsWithin (length after.now + 1) result }
+    ensures value { (stays : PointValue → Bool) → room ≡ room_of stays after.now
+        → result ≡ best_from stays rule p after.now bests.now }
+{
+    let ([b, ..], [from, ..]) = (after, bests) else {
+        return NO_STITCH;
+    };
+    best_beyond(rule, room, p, after, bests, from.with(p, *b, 0))
+}
+
+/// Returns the best choice of the nearest one and of those whose first stitch leaves out some of the points.
+fn best_beyond(
+    rule: SpacingRule,
+    room: usize,
+    p: Point,
+    after: &[Point],
+    bests: &[Best],
+    nearest: Best,
+) -> Best
+    requires some { 1 ≤ length after.now }
+    requires sized { length bests.now ≡ length after.now }
+    requires few { length after.now < MAX_POINTS }
+    requires within { All (IsWithin (length after.now)) bests.now }
+    requires near { IsWithin (length after.now + 1) nearest }
+    requires most { room ≤ MAX_LEFT_OUT }
+    ensures within { IsWithin (length after.now + 1) result }
+    ensures value { (stays : PointValue → Bool) → room ≡ room_of stays after.now
+        → result ≡ best_over stays rule p nearest (take 1 after.now) (drop 1 after.now) (drop 1 bests.now) }
+{
+    let mut best = nearest;
+    let mut n = room.min(after.len() - 1);
+    while n > 0 {
+        best = better(rule, p, &after[..n], after[n], &bests[n], best);
+        n -= 1;
+    }
+    best
+}
+
+/// Returns the choice whose first stitch leads from `p` to `b` and leaves out points, where it is better than
+/// another one, and else that one.
+fn better(rule: SpacingRule, p: Point, out: &[Point], b: Point, from: &Best, other: Best) -> Best
+    requires some { 1 ≤ length out.now }
+    requires most { length out.now ≤ MAX_LEFT_OUT }
+    requires small { IsWithin MAX_POINTS from.now }
+    ensures within { (n : ℕ) → IsWithin n from.now → IsWithin (n + 1) other → IsWithin (n + 1) result }
+    ensures value { (stays : PointValue → Bool) → does_none_stay stays out.now ≡ true
+        → result ≡ better_with stays rule p out.now b from.now other }
+{
+    if !is_worth_a_try(rule, p, b, from, &other) {
+        return other;
+    }
+    let new = from.with(p, b, out.len());
+    if new.is_better(&other) && is_stitch(rule, p, b, out) {
+        new
+    } else {
+        other
+    }
+}
+
+/// Returns whether a stitch from `p` to `b` is short enough, and may be better than another choice.
+fn is_worth_a_try(rule: SpacingRule, p: Point, b: Point, from: &Best, other: &Best) -> bool
+    ensures { result ≡ (nat_lt from.now.stitches other.now.stitches
+        && nat_le (distance_between p b) rule.step) }
+{
+    from.stitches < other.stitches && distance(p, b) <= rule.step as u32
+}
