@@ -1,0 +1,18 @@
+pub mod Names
+pub mod PassLemmas
+pub mod WalkLemmas
+pub mod TourLemmas
+pub mod LinkLemmas
+pub mod ExtraLemmas
+pub mod PairLemmas
+pub mod OddLemmas
+pub mod SpotLemmas
+pub mod TableLemmas
+pub mod MateLemmas
+pub mod LowerLemmas
+pub mod UpperLemmas
+pub mod TriangleLemmas
+pub mod ChoiceLemmas
+pub mod FoundLemmas
+pub mod OrderLemmas
+mod BestEndFacts
