@@ -1,0 +1,4 @@
+pub mod Names
+pub mod NodeLemmas
+pub mod MoveLemmas
+mod TravelFacts

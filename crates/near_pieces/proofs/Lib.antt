@@ -1,0 +1,4 @@
+pub mod Names
+pub mod RunLemmas
+pub mod NearLemmas
+mod NearFacts
