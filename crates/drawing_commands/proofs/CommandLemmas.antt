@@ -1,10 +1,22 @@
 -- What is proved of each command: its plan decides, and the outputs of its products are the files that it writes.
-use Rattle.std.proofs.Common.{[], ◌∷◌, Ok, Err, Result}
-use Rattle.drawing_commands.proofs.Names.{DrawingValue, stitch_drawing, BadEdit, drawing_edit_read, edited_plan, edits_applied, look_read, DrawingOrder, editing, snap_made, snap_read, space_made, space_read, SnappedDrawing, snap_of, drawing_of, IsSoundPlan, accepts_sound, named, parses_sound, program_sound, refuses_sound, SpacedDrawing, drawing_outputs_of, drawing_plan_of, IsEdited, IsLook, looking, snapping, spacing, IsSnapProduct, IsSpaceProduct}
+use Rattle.std.proofs.Common.{[], ◌∷◌, ◌==◌, ℕ, Bool, true, false, Option, Ok, Err, Result, length}
+use Rattle.near_pieces.specs.NearDrawings.{drawn_with}
+use Rattle.drawing_commands.proofs.Names.{DrawingValue, stitch_drawing_after, BadEdit, drawing_edit_read, edited_plan, edits_applied, look_read, DrawingOrder, editing, snap_made, snap_read, space_made, space_read, SnappedDrawing, snap_of, drawing_of, IsSoundPlan, accepts_sound, ends, named, parses_sound, program_sound, refuses_sound, SpacedDrawing, drawing_outputs_of, drawing_plan_of, IsEdited, IsLook, looking, snapping, spacing, telling, IsSnapProduct, IsSpaceProduct, freeing, free_made, free_read, IsFreeProduct, lines_joined, JoinedLines, nearing, near_kept, near_made, near_read, IsNearProduct}
 use Rattle.drawing_text.specs.DrawingLines.{lines_read}
 use Rattle.line_graph.specs.declared.draw_kind.DrawKind.{DrawKind}
 use Rattle.drawing_repairs.specs.declared.snap_fault.SnapFault.{SnapFault}
+use Rattle.companion_words.specs.MistakenWords.{MistakenWord}
+use Rattle.companion_words.specs.UsageTexts.{usage_with}
+use Rattle.drawing_commands.specs.Usage.{drawing_program_name, drawing_usage_text}
+use Rattle.outside_io.specs.Views.{SinkView, StoreView}
 use Rattle.program_shell.specs.ExactPlans.{IsSoundProgram}
+use Rattle.program_shell.specs.FinishedRuns.{FinishesRun}
+use Rattle.program_shell.specs.ProgramRuns.{RunEnds}
+use Rattle.program_shell.specs.RunViews.{Views, views_of}
+use Rattle.program_shell.specs.StepOutcomes.{RunsRequest}
+use Rattle.program_shell.specs.declared.failure.Failure.{Failure}
+use Rattle.program_shell.specs.declared.product.Product.{Product}
+use Rattle.program_shell.specs.declared.status.Status.{Status}
 use Rattle.spaced_lines.specs.SpacedDrawings.{space_of}
 
 -- The plan of each order is sound.
@@ -21,20 +33,48 @@ order_sound (snapping order) = parses_sound (order.output ∷ []) order.input li
         (λ product is. named product _ is.written.made)
     made d (Err fault) = refuses_sound (order.output ∷ []) _
 order_sound (spacing order) = parses_sound (order.output ∷ []) order.input lines_read (space_read order)
-    (λ read. made read.drawn.drawing (space_of read.drawn.drawing read.drawing.starts read.drawing.ends))
+    (λ read. made read.drawn.drawing (space_of order.limits read.drawn.drawing read.drawing.starts read.drawing.ends))
     (λ fault. refuses_sound (order.output ∷ []) _)
   where
     made : (d : DrawingValue) (said : Result SpacedDrawing DrawKind) → IsSoundPlan (order.output ∷ []) (space_made order d said)
     made d (Ok spaced) = accepts_sound (order.output ∷ []) (IsSpaceProduct order.output d spaced)
         (λ product is. named product _ is.written.made)
     made d (Err kind) = refuses_sound (order.output ∷ []) _
+order_sound (freeing order) = parses_sound (order.output ∷ []) order.input lines_read (free_read order)
+    (λ read. made (lines_joined read.drawn.drawing read.drawing.starts read.drawing.ends))
+    (λ fault. refuses_sound (order.output ∷ []) _)
+  where
+    made : (said : Result JoinedLines DrawKind) → IsSoundPlan (order.output ∷ []) (free_made order said)
+    made (Ok lines) = accepts_sound (order.output ∷ []) (IsFreeProduct order.output lines.drawn lines.joined)
+        (λ product is. named product _ is.written.made)
+    made (Err kind) = refuses_sound (order.output ∷ []) _
+order_sound (nearing order) = parses_sound (order.output ∷ []) order.input drawing_of (near_read order)
+    (λ d. made (length d.lines) (drawn_with d d.lines d.starts)) (λ fault. refuses_sound (order.output ∷ []) _)
+  where
+    kept : (before : DrawingValue) (is : Bool) → IsSoundPlan (order.output ∷ []) (near_kept order before is)
+    kept before true = accepts_sound (order.output ∷ []) (IsNearProduct order.output before) (λ product is. named product _ is.made)
+    kept before false = refuses_sound (order.output ∷ []) _
+
+    made : (lines : ℕ) (said : Result DrawingValue DrawKind) → IsSoundPlan (order.output ∷ []) (near_made order lines said)
+    made lines (Ok before) = kept before (length before.lines == lines)
+    made lines (Err kind) = refuses_sound (order.output ∷ []) _
 order_sound (editing order) = parses_sound (order.output ∷ []) order.input drawing_of (drawing_edit_read order)
     (λ d. made (edits_applied 1 order.edits d)) (λ fault. refuses_sound (order.output ∷ []) _)
   where
     made : (said : Result DrawingValue BadEdit) → IsSoundPlan (order.output ∷ []) (edited_plan order.input order.output said)
     made (Ok d) = accepts_sound (order.output ∷ []) (IsEdited order.output d) (λ product is. named product _ is.made)
     made (Err bad) = refuses_sound (order.output ∷ []) _
+order_sound (telling text) = accepts_sound [] _ (λ product is. named product _ is)
 
 -- The program is sound.
-pub drawing_sound : IsSoundProgram stitch_drawing
-drawing_sound = program_sound stitch_drawing order_sound
+pub drawing_sound : (mistake : Option MistakenWord) → IsSoundProgram (stitch_drawing_after mistake)
+drawing_sound mistake = program_sound (stitch_drawing_after mistake) order_sound
+
+-- A run that is finished with the result of its request, and with the usage text after a mistake, ends as specified.
+pub drawing_ends : (mistake : Option MistakenWord) (requested : Option DrawingOrder) (store mid : StoreView)
+    (out err : SinkView) (after : Views) (s : Status) (result : Result Product Failure)
+    → ((m : Option MistakenWord) → RunsRequest (stitch_drawing_after m) requested store mid result)
+    → FinishesRun drawing_program_name (usage_with drawing_program_name drawing_usage_text mistake) result (views_of mid out err) after s
+    → RunEnds (stitch_drawing_after mistake) requested (views_of store out err) after s
+drawing_ends mistake requested store mid out err after s result runs finishes =
+    ends (stitch_drawing_after mistake) (drawing_sound mistake) requested store mid out err after s result (runs mistake) finishes

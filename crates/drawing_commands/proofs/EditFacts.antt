@@ -50,11 +50,6 @@ pub known_edit_order : drawing_order_of (codes "edit" ∷ codes "a.rw" ∷ codes
     ≡ Some (editing (drawing_edit_order (codes "a.rw") (codes "b.rw") (edit.Centre ∷ [])))
 known_edit_order = refl
 
-pub known_no_order : (drawing_order_of (codes "edit" ∷ codes "a.rw" ∷ codes "b.rw" ∷ []) ≡ None)
-    × (drawing_order_of (codes "edit" ∷ codes "a.rw" ∷ codes "a.rw" ∷ codes "centre" ∷ []) ≡ None)
-    × (drawing_order_of (codes "edit" ∷ codes "a.rw" ∷ codes "b.rw" ∷ codes "centre" ∷ codes "grow" ∷ []) ≡ None)
-known_no_order = (refl, refl, refl)
-
 -- a line whose last point is at the limit
 abbrev wide : DrawingValue
 wide = record {

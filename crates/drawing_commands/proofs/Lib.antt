@@ -6,4 +6,6 @@ pub mod DrawingEditLemmas
 pub mod RequestLemmas
 mod CommandLemmas
 mod EditFacts
+mod MistakeFacts
 mod ProductFacts
+pub mod NearLemmas

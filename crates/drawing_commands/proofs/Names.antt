@@ -1,16 +1,19 @@
 -- Names from elsewhere that several files of these proofs use.
-pub use Rattle.std.proofs.lemmas.List.{at_drop_more, length-map}
-pub use Rattle.std.specs.Prelude.{is_some, option_map, unwrap_or}
-pub use Rattle.command_words.proofs.CallerLemmas.{all_are_parsed, first_parsed, later_parsed}
+pub use Rattle.std.proofs.lemmas.List.{at_drop_more}
+pub use Rattle.std.specs.Prelude.{is_some, unwrap_or}
+pub use Rattle.command_words.proofs.CallerLemmas.{first_parsed, later_parsed}
 pub use Rattle.command_words.specs.Arguments.{with_first_edit}
-pub use Rattle.drawing_commands.specs.Commands.{drawing_outputs_of, drawing_plan_of, stitch_drawing}
+pub use Rattle.drawing_commands.specs.Commands.{drawing_mistake, drawing_order_of, drawing_outputs_of, drawing_plan_of}
+pub use Rattle.drawing_commands.specs.Commands.{stitch_drawing_after}
 pub use Rattle.drawing_commands.specs.DrawingEditWords.{drawing_edits_of, parsed_drawing_edit, parsed_drawing_edits}
 pub use Rattle.drawing_commands.specs.DrawingEditing.{IsEdited, at_edit, bad_edit_is_out_of_memory, bad_edit_text, drawing_edit_order}
 pub use Rattle.drawing_commands.specs.DrawingEditing.{drawing_edit_read, edit_fault_text, edited_plan, edits_applied}
 pub use Rattle.drawing_commands.specs.LookTexts.{look_piece_line, look_piece_lines, look_totals_text, place_lines}
+pub use Rattle.drawing_commands.specs.FreeOrders.{IsFreeProduct, free_made, free_order, free_read}
+pub use Rattle.drawing_commands.specs.FreeTexts.{closed_penetrations, found_lines, free_penetrations}
+pub use Rattle.drawing_commands.specs.NearFiles.{IsNearProduct, near_file_order, near_kept, near_made, near_read}
 pub use Rattle.drawing_commands.specs.Looks.{IsLook, look_order, look_read}
-pub use Rattle.drawing_commands.specs.Requests.{DrawingOrder, drawing_order_of, edit_order_with, editing, looking}
-pub use Rattle.drawing_commands.specs.Requests.{parsed_drawing_edit_request, snapping, spacing}
+pub use Rattle.drawing_commands.specs.Requests.{DrawingOrder, editing, freeing, looking, nearing, snapping, spacing, telling}
 pub use Rattle.drawing_commands.specs.SnapOrders.{IsSnapProduct, snap_made, snap_order, snap_read}
 pub use Rattle.drawing_commands.specs.SpaceOrders.{IsSpaceProduct, space_made, space_order, space_read, space_report}
 pub use Rattle.drawing_commands.specs.declared.bad_edit.BadEdit.{BadEdit}
@@ -24,4 +27,6 @@ pub use Rattle.drawing_text.specs.DrawingText.{drawing_of}
 pub use Rattle.line_sections.specs.declared.spot.Spot.{Spot}
 pub use Rattle.program_shell.proofs.CallerLemmas.{IsSoundPlan, accepts_sound, can_finish, ends, fault_refused, named, parses_sound}
 pub use Rattle.program_shell.proofs.CallerLemmas.{program_sound, refuses_sound, settles_taken}
+pub use Rattle.free_ends.specs.FreedDrawings.{lines_joined}
+pub use Rattle.free_ends.specs.declared.joined_lines.JoinedLines.{JoinedLines}
 pub use Rattle.spaced_lines.specs.declared.spaced_drawing.SpacedDrawing.{SpacedDrawing}

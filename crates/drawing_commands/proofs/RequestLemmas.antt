@@ -1,19 +1,24 @@
--- The order of `edit`, where its arguments are edits.
-use Rattle.std.proofs.Common.{◌≡◌, ◌≤◌, ℕ, List, [], ◌∷◌, Option, Some, None, IsSome, length, refl, arith}
-use Rattle.drawing_commands.proofs.Names.{unwrap_or, with_first_edit, DrawingEdit, drawing_edit_order, drawing_edits_of, parsed_drawing_edit, parsed_drawing_edits, DrawingOrder, edit_order_with, editing, option_map}
+-- Arguments of which none is mistaken for an edit.
+use Rattle.std.proofs.Common.{◌≡◌, ℕ, List, [], ◌∷◌, Option, Some, None, IsSome, refl}
+use Rattle.std.specs.Prelude.{if◌then◌else◌}
+use Rattle.drawing_commands.proofs.Names.{is_some, with_first_edit, DrawingEdit, parsed_drawing_edit, parsed_drawing_edits}
+use Rattle.drawing_commands.specs.DrawingEditWords.{first_mistaken_edit}
 
--- The order of `edit` by names and edits.
-abbrev edit_order : Option (List ℕ × List ℕ) → List DrawingEdit → Option DrawingOrder
-edit_order names edits = option_map (λ n. editing (drawing_edit_order n.0 n.1 edits)) names
-
-made_with : (names : Option (List ℕ × List ℕ)) (first : Option DrawingEdit) (later : Option (List DrawingEdit))
-    → IsSome (with_first_edit first later)
-    → edit_order names (unwrap_or (with_first_edit first later) []) ≡ edit_order_with names (with_first_edit first later)
-made_with names (Some one) (Some rest) some = refl
-made_with names (Some one) None some = absurd (let no : ⊥ = cc in no)
-made_with names None later some = absurd (let no : ⊥ = cc in no)
-
-pub edit_made : (names : Option (List ℕ × List ℕ)) (edits : List (List ℕ)) → IsSome (parsed_drawing_edits edits) → 1 ≤ length edits
-    → edit_order names (drawing_edits_of edits) ≡ edit_order_with names (parsed_drawing_edits edits)
-edit_made names [] some more = absurd (omega (arith, more))
-edit_made names (word ∷ rest) some more = made_with names (parsed_drawing_edit word) (parsed_drawing_edits rest) some
+-- Arguments of which none is mistaken are edits.
+pub none_mistaken : (words : List (List ℕ)) → first_mistaken_edit words ≡ None → IsSome (parsed_drawing_edits words)
+none_mistaken [] none = refl
+none_mistaken (word ∷ words) none = by_first (parsed_drawing_edit word) none (none_mistaken words)
+  where
+    by_first : (first : Option DrawingEdit)
+        → (if is_some first then first_mistaken_edit words else Some word) ≡ None
+        → (first_mistaken_edit words ≡ None → IsSome (parsed_drawing_edits words))
+        → IsSome (with_first_edit first (parsed_drawing_edits words))
+    by_first None none later = absurd (some_word none)
+      where
+        some_word : ◌≡◌ {A = Option (List ℕ)} (Some word) None → ⊥
+        some_word is = cc
+    by_first (Some change) none later = with_first (parsed_drawing_edits words) (later none)
+      where
+        with_first : (more : Option (List DrawingEdit)) → IsSome more → IsSome (with_first_edit (Some change) more)
+        with_first None some = some
+        with_first (Some edits) some = some

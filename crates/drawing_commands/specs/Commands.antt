@@ -1,41 +1,63 @@
--- The commands of stitch_drawing: the plan of each order, the files that it writes, and the usage
--- text.
-use Rattle.std.specs.Prelude.{ℕ, List, [], ◌∷◌, ◌++◌, codes}
-use Rattle.design_model.specs.TextLines.{newline}
-use Rattle.program_shell.specs.Plans.{Plan}
+-- The commands of stitch_drawing: the plan of each order, the files that it writes, and the
+-- program.
+use Rattle.std.specs.Prelude.{◌≡◌, ℕ, List, [], ◌∷◌, Option, Some, None, Result, Ok, Err}
+use Rattle.companion_words.specs.MistakenWords.{MistakenWord}
+use Rattle.companion_words.specs.UsageTexts.{usage_with}
+use Rattle.program_shell.specs.Plans.{Plan, accepts}
+use Rattle.program_shell.specs.Products.{report_product}
 use Rattle.program_shell.specs.Programs.{Program}
 use Rattle.drawing_commands.specs.DrawingEditing.{drawing_edit_plan}
+use Rattle.drawing_commands.specs.FreeOrders.{free_plan}
 use Rattle.drawing_commands.specs.Looks.{look_plan}
-use Rattle.drawing_commands.specs.Requests.{DrawingOrder, editing, looking, snapping, spacing}
+use Rattle.drawing_commands.specs.NearFiles.{near_plan}
+use Rattle.drawing_commands.specs.Requests.{DrawingOrder, editing, freeing, looking, nearing, parsed_drawing_words, snapping, spacing, telling}
 use Rattle.drawing_commands.specs.SnapOrders.{snap_plan}
 use Rattle.drawing_commands.specs.SpaceOrders.{space_plan}
+use Rattle.drawing_commands.specs.Usage.{drawing_program_name, drawing_usage_text}
+
+-- The order of parsed arguments.
+abbrev pub order_of_parsed : Result DrawingOrder (Option MistakenWord) → Option DrawingOrder
+order_of_parsed (Ok order) = Some order
+order_of_parsed (Err mistake) = None
+
+-- The mistake of parsed arguments.
+abbrev pub mistake_of_parsed : Result DrawingOrder (Option MistakenWord) → Option MistakenWord
+mistake_of_parsed (Ok order) = None
+mistake_of_parsed (Err mistake) = mistake
+
+-- The order that the arguments request, or none.
+abbrev pub drawing_order_of : List (List ℕ) → Option DrawingOrder
+drawing_order_of words = order_of_parsed (parsed_drawing_words words)
+
+-- The first argument that isn't understood, if there is one.
+abbrev pub drawing_mistake : List (List ℕ) → Option MistakenWord
+drawing_mistake words = mistake_of_parsed (parsed_drawing_words words)
 
 -- The plan of an order: which files it reads, and what it accepts or refuses.
 abbrev pub drawing_plan_of : DrawingOrder → Plan
 drawing_plan_of (looking order) = look_plan order
 drawing_plan_of (snapping order) = snap_plan order
 drawing_plan_of (spacing order) = space_plan order
+drawing_plan_of (freeing order) = free_plan order
+drawing_plan_of (nearing order) = near_plan order
 drawing_plan_of (editing order) = drawing_edit_plan order
+drawing_plan_of (telling text) = accepts (λ product. product ≡ report_product text)
 
 -- The names of the files that an order writes, in the order of writing.
 abbrev pub drawing_outputs_of : DrawingOrder → List (List ℕ)
 drawing_outputs_of (looking order) = []
 drawing_outputs_of (snapping order) = order.output ∷ []
 drawing_outputs_of (spacing order) = order.output ∷ []
+drawing_outputs_of (freeing order) = order.output ∷ []
+drawing_outputs_of (nearing order) = order.output ∷ []
 drawing_outputs_of (editing order) = order.output ∷ []
+drawing_outputs_of (telling text) = []
 
--- The usage text: the commands and their arguments.
-abbrev pub drawing_usage_text : List ℕ
-drawing_usage_text = codes "usage: stitch_drawing look DRAWING [GAP]" ++ (newline
-    ++ (codes "       stitch_drawing snap GAP DRAWING OUT" ++ (newline
-    ++ (codes "       stitch_drawing space DRAWING OUT" ++ (newline
-    ++ (codes "       stitch_drawing edit DRAWING OUT EDIT..." ++ newline))))))
-
--- The program.
-abbrev pub stitch_drawing : Program DrawingOrder
-stitch_drawing = record {
-  name = codes "stitch_drawing";
-  usage = drawing_usage_text;
+-- The program, with the usage text after a mistake in the arguments, if there is one.
+abbrev pub stitch_drawing_after : Option MistakenWord → Program DrawingOrder
+stitch_drawing_after mistake = record {
+  name = drawing_program_name;
+  usage = usage_with drawing_program_name drawing_usage_text mistake;
   plan = drawing_plan_of;
   outputs = drawing_outputs_of;
 }

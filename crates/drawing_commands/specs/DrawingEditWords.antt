@@ -1,6 +1,6 @@
 -- The edits of a drawing that arguments represent: `shift=DX,DY`, `turn=Q`, `mirror=x` and
 -- `mirror=y` as of a design, `centre`, `step=N`, `order=P,Q`, `start=X,Y` and `end=X,Y`.
-use Rattle.std.specs.Prelude.{ℕ, List, [], Option, Some, None, bytes_eq, codes, option_map, unwrap_or, if◌then◌else◌}
+use Rattle.std.specs.Prelude.{ℕ, List, [], ◌∷◌, Option, Some, None, bytes_eq, codes, is_some, option_map, unwrap_or, if◌then◌else◌}
 use Rattle.command_words.specs.Arguments.{all_parsed, comma, equals_sign, natural_within, parsed_edit, point_within}
 use Rattle.command_words.specs.Changes.{Change, move}
 use Rattle.design_model.specs.declared.point.TheConstants.{NEEDLE_LIMIT}
@@ -60,3 +60,9 @@ parsed_drawing_edits words = all_parsed parsed_drawing_edit words
 -- The edits that arguments represent, or none where one of them represents no edit.
 abbrev pub drawing_edits_of : List (List ℕ) → List DrawingEdit
 drawing_edits_of words = unwrap_or (parsed_drawing_edits words) []
+
+-- The first argument that is no edit of a drawing, if there is one.
+abbrev pub first_mistaken_edit : List (List ℕ) → Option (List ℕ)
+first_mistaken_edit [] = None
+first_mistaken_edit (word ∷ words) =
+    if is_some (parsed_drawing_edit word) then first_mistaken_edit words else Some word

@@ -1,16 +1,26 @@
 -- Definitions of a lower crate that public clauses cite.
+pub use Rattle.companion_words.specs.MistakenWords
+pub use Rattle.companion_words.specs.UsageTexts
 pub use Rattle.program_shell.specs.ProgramRuns
 pub use Rattle.program_shell.specs.RunViews
+pub mod Usage
+pub mod Mistakes
 pub mod FaultTexts
 pub mod LookTexts
 pub mod Looks
 pub mod WholeProducts
 pub mod SnapTexts
 pub mod SnapOrders
+pub mod LengthSpans
 pub mod SpaceTexts
 pub mod SpaceOrders
+pub mod FreeTexts
+pub mod FreeOrders
+pub mod NearFiles
 pub mod DrawingEditWords
 pub mod DrawingEditing
+pub mod Names
+pub mod SpaceWords
 pub mod Requests
 -- Read this one first: the commands, their plans, and the program.
 pub mod Commands

@@ -1,38 +1,51 @@
--- What the arguments of stitch_drawing request: a command and its arguments.
-use Rattle.std.specs.Prelude.{ℕ, ◌≤◌, pos, negsuc, List, [], ◌∷◌, Option, Some, None, IsSome, bytes_eq, codes, length, map, nat_le, option_map, string_bytes, if◌then◌else◌}
-use Rattle.design_model.specs.declared.whole_number.Whole.{Whole}
-use Rattle.design_model.specs.declared.whole_number.Whole.TheVariants as whole
-use Rattle.design_model.specs.WholeNumbers.{parsed_whole}
+-- What the arguments of stitch_drawing request, a command and its arguments; or the first that
+-- isn't understood.
+use Rattle.std.specs.Prelude.{ℕ, ◌≤◌, List, [], ◌∷◌, Option, Some, None, IsSome, Result, Ok, Err, bytes_eq, codes, length, map, string_bytes, if◌then◌else◌}
+use Rattle.companion_words.specs.MistakenWords.{MistakenWord, then_with, with_some_mistake}
+use Rattle.companion_words.specs.UsageTexts.{version_line}
 use Rattle.command_words.specs.declared.names.FileNames.{FileNames}
-use Rattle.command_words.specs.Names.{if_named, names_and_rest, two_names}
 use Rattle.command_words.specs.ValidNames.{AreFileNames}
 use Rattle.outside_io.specs.Files.{IsFileName}
+use Rattle.drawing_commands.specs.declared.mistake.Misfit.TheVariants as misfit
 use Rattle.drawing_commands.specs.declared.requests.DrawingRequest.{DrawingRequest}
 use Rattle.drawing_commands.specs.declared.requests.DrawingRequest.TheVariants as request
-use Rattle.drawing_commands.specs.declared.requests.TheConstants.{DEFAULT_GAP, MAX_GAP}
-use Rattle.drawing_edits.specs.declared.drawing_edit.DrawingEdit.{DrawingEdit}
 use Rattle.drawing_commands.specs.DrawingEditing.{DrawingEditOrder, drawing_edit_order}
-use Rattle.drawing_commands.specs.DrawingEditWords.{drawing_edits_of, parsed_drawing_edits}
+use Rattle.drawing_commands.specs.DrawingEditWords.{drawing_edits_of, first_mistaken_edit, parsed_drawing_edits}
+use Rattle.drawing_commands.specs.FreeOrders.{FreeOrder, free_order}
 use Rattle.drawing_commands.specs.Looks.{LookOrder, look_order}
+use Rattle.drawing_commands.specs.Mistakes.{mistake_at}
+use Rattle.drawing_commands.specs.Names.{gap_or_mistake, name_or_mistake, nothing_after, parsed_gap, parsed_names}
+use Rattle.drawing_commands.specs.NearFiles.{NearFileOrder, near_file_order}
 use Rattle.drawing_commands.specs.SnapOrders.{SnapOrder, snap_order}
 use Rattle.drawing_commands.specs.SpaceOrders.{SpaceOrder, space_order}
+use Rattle.drawing_commands.specs.SpaceWords.{no_limits, parsed_spacing}
+use Rattle.drawing_commands.specs.Usage.{drawing_program_name, drawing_usage_text}
 
--- An order, with a case for each command.
+-- An order, with a case for each command. The last prints a text that depends on no file.
 pub data DrawingOrder : Type 0 where
   looking : LookOrder → DrawingOrder
   snapping : SnapOrder → DrawingOrder
   spacing : SpaceOrder → DrawingOrder
+  freeing : FreeOrder → DrawingOrder
+  nearing : NearFileOrder → DrawingOrder
   editing : DrawingEditOrder → DrawingOrder
+  telling : (text : List ℕ) → DrawingOrder
 
 -- The order of a request of the program.
 abbrev pub order_of_request : DrawingRequest → DrawingOrder
 order_of_request (request.Look file gap) = looking (look_order file.now gap)
 order_of_request (request.Snap gap names) =
     snapping (snap_order gap names.input.now names.output.now)
-order_of_request (request.Space names) = spacing (space_order names.input.now names.output.now)
+order_of_request (request.Space limits names) =
+    spacing (space_order limits names.input.now names.output.now)
+order_of_request (request.Free names) = freeing (free_order names.input.now names.output.now)
+order_of_request (request.Near names) =
+    nearing (near_file_order names.input.now names.output.now)
 order_of_request (request.Edit names edits) =
     editing (drawing_edit_order names.input.now names.output.now
     (drawing_edits_of (map (λ word. string_bytes word) edits.now)))
+order_of_request request.Help = telling drawing_usage_text
+order_of_request request.Version = telling (version_line drawing_program_name)
 
 -- The names of `edit` are file names, and there are edits.
 pub record IsEditRequest (names : FileNames) (edits : List (List ℕ)) : Type 0 where
@@ -44,68 +57,81 @@ pub record IsEditRequest (names : FileNames) (edits : List (List ℕ)) : Type 0 
 abbrev pub HasFileNames : DrawingRequest → Type 0
 HasFileNames (request.Look file gap) = IsFileName file.now
 HasFileNames (request.Snap gap names) = AreFileNames names
-HasFileNames (request.Space names) = AreFileNames names
+HasFileNames (request.Space limits names) = AreFileNames names
+HasFileNames (request.Free names) = AreFileNames names
+HasFileNames (request.Near names) = AreFileNames names
 HasFileNames (request.Edit names edits) =
     IsEditRequest names (map (λ word. string_bytes word) edits.now)
+HasFileNames request.Help = Unit {0}
+HasFileNames request.Version = Unit {0}
 
--- The gap that a number denotes, in tenths of a millimetre, if it is in range.
-abbrev pub gap_of : Whole → Option ℕ
-gap_of (whole.Value (pos n)) = if nat_le n MAX_GAP then Some n else None
-gap_of (whole.Value (negsuc n)) = None
-gap_of whole.Outside = None
-gap_of whole.NotANumber = None
+-- The order of `look`.
+abbrev pub parsed_look : (command : List ℕ) → List (List ℕ) → Result DrawingOrder MistakenWord
+parsed_look command [] = Err (mistake_at command misfit.NoFile)
+parsed_look command (file ∷ words) = then_with (name_or_mistake file) (λ name.
+    then_with (parsed_gap words) (λ gap. Ok (looking (look_order name gap))))
 
--- The order of `look` with an optional gap, if its name is a file name.
-abbrev pub look_with_gap : List ℕ → Option ℕ → Option DrawingOrder
-look_with_gap file None = None
-look_with_gap file (Some gap) = option_map (λ name. looking (look_order name gap)) (if_named file)
+-- The order of `snap`: a gap, and two different file names.
+abbrev pub parsed_snap : (command : List ℕ) → List (List ℕ) → Result DrawingOrder MistakenWord
+parsed_snap command [] = Err (mistake_at command misfit.NoGap)
+parsed_snap command (gap ∷ words) = then_with (gap_or_mistake gap) (λ g.
+    then_with (parsed_names gap words) (λ named.
+    nothing_after (snapping (snap_order g named.input named.output)) named.rest))
 
--- The order of `look` with the given arguments, if there is one.
-abbrev pub parsed_look : List (List ℕ) → Option DrawingOrder
-parsed_look (file ∷ []) = look_with_gap file (Some DEFAULT_GAP)
-parsed_look (file ∷ gap ∷ []) = look_with_gap file (gap_of (parsed_whole gap))
-parsed_look words = None
+-- The order of `space`: two different file names, and what is given of the rule.
+abbrev pub parsed_space : (command : List ℕ) → List (List ℕ) → Result DrawingOrder MistakenWord
+parsed_space command words = then_with (parsed_names command words) (λ named.
+    then_with (parsed_spacing no_limits named.rest) (λ limits.
+    Ok (spacing (space_order limits named.input named.output))))
 
--- The two names, if they differ.
-abbrev pub if_apart : Option (List ℕ × List ℕ) → Option (List ℕ × List ℕ)
-if_apart (Some (input, output)) = if bytes_eq input output then None else Some (input, output)
-if_apart None = None
+-- The order of `free`: two different file names.
+abbrev pub parsed_free : (command : List ℕ) → List (List ℕ) → Result DrawingOrder MistakenWord
+parsed_free command words = then_with (parsed_names command words) (λ named.
+    nothing_after (freeing (free_order named.input named.output)) named.rest)
 
--- The order of `snap` with an optional gap and optional names.
-abbrev pub snap_with_gap : Option ℕ → Option (List ℕ × List ℕ) → Option DrawingOrder
-snap_with_gap None names = None
-snap_with_gap (Some gap) names = option_map (λ n. snapping (snap_order gap n.0 n.1)) names
+-- The order of `near`: two different file names.
+abbrev pub parsed_near : (command : List ℕ) → List (List ℕ) → Result DrawingOrder MistakenWord
+parsed_near command words = then_with (parsed_names command words) (λ named.
+    nothing_after (nearing (near_file_order named.input named.output)) named.rest)
 
--- The order of `snap` with the given arguments, if there is one: a gap, and two different file
--- names.
-abbrev pub parsed_snap : List (List ℕ) → Option DrawingOrder
-parsed_snap (gap ∷ rest) =
-    snap_with_gap (gap_of (parsed_whole gap)) (if_apart (two_names (names_and_rest rest)))
-parsed_snap [] = None
+-- A value, if no argument is mistaken for an edit.
+abbrev pub unless_mistaken : {V : Type 0} → V → Option (List ℕ) → Result V MistakenWord
+unless_mistaken made None = Ok made
+unless_mistaken made (Some word) = Err (mistake_at word misfit.NotAnEdit)
 
--- The order of `edit` with the given edits, if there are any and the names differ.
-abbrev pub edit_order_with : Option (List ℕ × List ℕ) → Option (List DrawingEdit)
-    → Option DrawingOrder
-edit_order_with names None = None
-edit_order_with names (Some []) = None
-edit_order_with names (Some (first ∷ later)) =
-    option_map (λ n. editing (drawing_edit_order n.0 n.1 (first ∷ later))) names
+-- The order of `edit` with those names and edits, if each argument is an edit.
+abbrev pub edits_parsed : (input output : List ℕ) → List (List ℕ)
+    → Result DrawingOrder MistakenWord
+edits_parsed input output words = unless_mistaken
+    (editing (drawing_edit_order input output (drawing_edits_of words))) (first_mistaken_edit words)
 
--- The order of `edit` with two file names and the arguments after them, if there is one.
-abbrev pub parsed_drawing_edit_request : Option (List ℕ × List ℕ × List (List ℕ))
-    → Option DrawingOrder
-parsed_drawing_edit_request (Some (input, output, words)) =
-    edit_order_with (if_apart (Some (input, output))) (parsed_drawing_edits words)
-parsed_drawing_edit_request None = None
+-- The order of `edit` with those names, if there are edits.
+abbrev pub edits_after : (input output : List ℕ) → List (List ℕ) → Result DrawingOrder MistakenWord
+edits_after input output [] = Err (mistake_at output misfit.NoEdit)
+edits_after input output (word ∷ words) = edits_parsed input output (word ∷ words)
 
--- The order that the arguments request, or none.
-abbrev pub drawing_order_of : List (List ℕ) → Option DrawingOrder
-drawing_order_of [] = None
-drawing_order_of (command ∷ words) =
-    if bytes_eq command (codes "look") then parsed_look words
-    else if bytes_eq command (codes "snap") then parsed_snap words
-    else if bytes_eq command (codes "space") then option_map
-    (λ names. spacing (space_order names.0 names.1)) (if_apart (two_names (names_and_rest words)))
-    else if bytes_eq command (codes "edit")
-    then parsed_drawing_edit_request (names_and_rest words)
-    else None
+-- The order of `edit`: two different file names, and edits.
+abbrev pub drawing_edit_parsed : (command : List ℕ) → List (List ℕ)
+    → Result DrawingOrder MistakenWord
+drawing_edit_parsed command words = then_with (parsed_names command words) (λ named.
+    edits_after named.input named.output named.rest)
+
+-- The order of a command and its arguments.
+abbrev pub command_order : (command : List ℕ) → List (List ℕ) → Result DrawingOrder MistakenWord
+command_order command words =
+    if bytes_eq command (codes "look") then parsed_look command words
+    else (if bytes_eq command (codes "snap") then parsed_snap command words
+    else (if bytes_eq command (codes "space") then parsed_space command words
+    else (if bytes_eq command (codes "free") then parsed_free command words
+    else (if bytes_eq command (codes "near") then parsed_near command words
+    else (if bytes_eq command (codes "edit") then drawing_edit_parsed command words
+    else (if bytes_eq command (codes "--help") then nothing_after (telling drawing_usage_text) words
+    else (if bytes_eq command (codes "--version")
+    then nothing_after (telling (version_line drawing_program_name)) words
+    else Err (mistake_at command misfit.NotACommand))))))))
+
+-- The order of the arguments, or the first that isn't understood. Without arguments there is
+-- neither.
+abbrev pub parsed_drawing_words : List (List ℕ) → Result DrawingOrder (Option MistakenWord)
+parsed_drawing_words [] = Err None
+parsed_drawing_words (command ∷ words) = with_some_mistake (command_order command words)

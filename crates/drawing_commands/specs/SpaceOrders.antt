@@ -2,6 +2,7 @@
 -- lines are written whole, as they were drawn, with its starts and ends. Costs count steps.
 use Rattle.std.specs.Prelude.{ℕ, List, ◌++◌, length, Result, Ok, Err}
 use Rattle.spaced_lines.specs.declared.spaced_drawing.SpacedDrawing.{SpacedDrawing}
+use Rattle.spaced_lines.specs.declared.spacing_rule.SpacingLimits.{SpacingLimits}
 use Rattle.spaced_lines.specs.SpacedDrawings.{space_of}
 use Rattle.drawing_text.specs.declared.draw_fault.DrawFault.{DrawFault}
 use Rattle.drawing_text.specs.declared.lines_read.LinesRead.{LinesRead}
@@ -16,24 +17,26 @@ use Rattle.program_shell.specs.Plans.{Plan, accepts, reads, refuses}
 use Rattle.program_shell.specs.Products.{ProductValue}
 use Rattle.program_texts.specs.DrawingTexts.{draw_kind_text}
 use Rattle.drawing_commands.specs.FaultTexts.{plan_after_reading}
+use Rattle.drawing_commands.specs.LengthSpans.{span_of}
 use Rattle.drawing_commands.specs.WholeProducts.{IsWholeProduct}
-use Rattle.drawing_commands.specs.SpaceTexts.{cost_change_text, point_change_text}
+use Rattle.drawing_commands.specs.SpaceTexts.{count_change_text, piece_count_text, span_change_text}
 
--- The order of `space`: the drawing to read, and the file to write.
+-- The order of `space`: what is given of the rule, the drawing to read, and the file to write.
 pub record SpaceOrder : Type 0 where
+  pub limits : SpacingLimits
   pub input : List ℕ
   pub output : List ℕ
 
--- The order of `space`, from its names.
-abbrev pub space_order : (input output : List ℕ) → SpaceOrder
-space_order input output = record { input = input; output = output }
+-- The order of `space`, from its limits and its names.
+abbrev pub space_order : SpacingLimits → (input output : List ℕ) → SpaceOrder
+space_order limits input output = record { limits = limits; input = input; output = output }
 
 -- The report of `space` on a drawing before and after.
 abbrev pub space_report : (before after : DrawingValue) → (pieces : ℕ) → List ℕ
 space_report before after pieces =
-    point_change_text (point_count before.lines) (point_count after.lines)
-    ++ cost_change_text (step_count before.step before.lines) (step_count after.step after.lines)
-    pieces
+    count_change_text (point_count before.lines) (point_count after.lines)
+    (step_count before.step before.lines) (step_count after.step after.lines)
+    ++ (span_change_text (span_of before.lines) (span_of after.lines) ++ piece_count_text pieces)
 
 -- The product of `space`: the spaced lines, written whole, and a report on them and on the lines
 -- before. The pieces are those that are sewn.
@@ -54,7 +57,7 @@ space_made order drawn (Err why) = refuses (text_about order.input (draw_kind_te
 -- ends of the drawing.
 abbrev pub space_lines : SpaceOrder → LinesRead → Plan
 space_lines order read = space_made order read.drawn.drawing
-    (space_of read.drawn.drawing read.drawing.starts read.drawing.ends)
+    (space_of order.limits read.drawn.drawing read.drawing.starts read.drawing.ends)
 
 -- The plan for the result of reading the drawing: a fault is refused.
 abbrev pub space_read : SpaceOrder → Result LinesRead DrawFault → Plan

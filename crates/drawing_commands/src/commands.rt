@@ -1,15 +1,20 @@
-ghost use Rattle.drawing_commands.specs.Commands.{stitch_drawing};
-ghost use Rattle.drawing_commands.specs.Requests.{drawing_order_of};
+ghost use Rattle.companion_words.specs.MistakenWords.{MistakenWord};
+ghost use Rattle.drawing_commands.specs.Commands.{drawing_order_of, stitch_drawing_after};
+ghost use Rattle.drawing_commands.specs.Requests.{HasFileNames, order_of_request};
 ghost use Rattle.program_shell.specs.StepOutcomes.{RunsRequest};
-ghost use Rattle.std.specs.Prelude.{map, string_bytes};
+ghost use Rattle.std.specs.Prelude.{Option as OptionValue, Some, map, string_bytes};
 
 use crate::editing::edit;
+use crate::freeing::free_file;
 use crate::looking::look;
+use crate::near_files::near_file;
 use crate::requests::{DrawingRequest, drawing_request};
 use crate::snapping::snap_file;
 use crate::spacing::space_file;
+use crate::usage::{NAME, usage};
+use companion_words::version_text;
 use outside_io::Store;
-use program_shell::{Failure, Made};
+use program_shell::{Failure, Made, bytes_of, only_report};
 use std::alloc::Global;
 
 /// Makes the product that the arguments request. Reads the inputs from the store, and writes nothing.
@@ -18,14 +23,39 @@ pub(crate) fn make_product<'a, S: Store>(
     words: &'a [String],
     store: &mut S,
 ) -> Made<'a>
-    ensures { RunsRequest stitch_drawing (drawing_order_of (map (λ word. string_bytes word) words.now))
+    ensures { (mistake : OptionValue MistakenWord) → RunsRequest (stitch_drawing_after mistake)
+        (drawing_order_of (map (λ word. string_bytes word) words.now))
         (S.view store.old) (S.view store.new) result }
 {
     match drawing_request(words) {
-        Some(DrawingRequest::Look { file, gap }) => look(alloc, file, gap, store),
-        Some(DrawingRequest::Snap { gap, names }) => snap_file(alloc, gap, names, store),
-        Some(DrawingRequest::Space(names)) => space_file(alloc, names, store),
-        Some(DrawingRequest::Edit { names, edits }) => edit(alloc, names, edits, store),
-        None => Err(Failure::BadArguments),
+        Ok(requested) => make_requested(alloc, requested, store),
+        Err(_) => Err(Failure::BadArguments),
+    }
+}
+
+fn make_requested<'a, S: Store>(
+    alloc: Global,
+    requested: DrawingRequest<'a>,
+    store: &mut S,
+) -> Made<'a>
+    requires { HasFileNames requested }
+    ensures { (mistake : OptionValue MistakenWord) → RunsRequest (stitch_drawing_after mistake)
+        (Some (order_of_request requested.entry)) (S.view store.old) (S.view store.new) result }
+{
+    match requested {
+        DrawingRequest::Look { file, gap } => look(alloc, file, gap, store),
+        DrawingRequest::Snap { gap, names } => snap_file(alloc, gap, names, store),
+        DrawingRequest::Space { limits, names } => space_file(alloc, limits, names, store),
+        DrawingRequest::Free(names) => free_file(alloc, names, store),
+        DrawingRequest::Near(names) => near_file(alloc, names, store),
+        DrawingRequest::Edit { names, edits } => edit(alloc, names, edits, store),
+        DrawingRequest::Help => {
+            let report = bytes_of(alloc, usage())?;
+            Ok(only_report(alloc, report))
+        }
+        DrawingRequest::Version => {
+            let report = bytes_of(alloc, version_text(NAME).as_slice())?;
+            Ok(only_report(alloc, report))
+        }
     }
 }

@@ -1,8 +1,8 @@
 ghost use Rattle.command_words.specs.Arguments.{comma};
 ghost use Rattle.command_words.specs.Edits.{IsEditInBounds, change_of_edit};
-ghost use Rattle.drawing_commands.specs.DrawingEditWords.{moving_edit, parsed_drawing_edit, parsed_drawing_edits, parsed_named_drawing_edit, parsed_order};
+ghost use Rattle.drawing_commands.specs.DrawingEditWords.{first_mistaken_edit, moving_edit, parsed_drawing_edit, parsed_drawing_edits, parsed_named_drawing_edit, parsed_order};
 ghost use Rattle.drawing_edits.specs.EditedDrawings.{IsDrawingEdit};
-ghost use Rattle.std.specs.Prelude.{◌≡◌, IfSome, Some, is_some, map, string_bytes};
+ghost use Rattle.std.specs.Prelude.{◌≡◌, IfNone, IfSome, IsSome, Some, map, option_map, string_bytes};
 ghost use Rattle.text_parts.specs.Parts.{split_at_byte};
 
 use command_words::{Edit, parse_edit, parse_natural, parse_point};
@@ -68,11 +68,17 @@ fn moving(edit: Edit) -> Option<DrawingEdit>
     }
 }
 
-/// Returns whether each argument is an edit of a drawing.
-pub(crate) fn are_drawing_edits(words: &[String]) -> bool
-    ensures { result ≡ is_some (parsed_drawing_edits (map (λ word. string_bytes word) words.now)) }
+/// Returns the first argument that is no edit of a drawing.
+pub(crate) fn first_mistaken_edit(words: &[String]) -> Option<&str>
+    ensures first { option_map (λ word. word.now) result
+        ≡ first_mistaken_edit (map (λ word. string_bytes word) words.now) }
+    ensures none { IfNone result
+        (IsSome (parsed_drawing_edits (map (λ word. string_bytes word) words.now))) }
 {
-    words
-        .iter()
-        .all(|word| parse_drawing_edit(word.as_bytes()).is_some())
+    for word in words {
+        if parse_drawing_edit(word.as_bytes()).is_none() {
+            return Some(word.as_str());
+        }
+    }
+    None
 }

@@ -44,7 +44,7 @@ fn edited_product<'a>(
 }
 
 /// Returns the canonical text of a joined drawing, which is read as that drawing.
-fn text_of(alloc: Global, drawing: &Drawing) -> Result<Bytes, Memory>
+pub(crate) fn text_of(alloc: Global, drawing: &Drawing) -> Result<Bytes, Memory>
     requires joined { is_joined drawing.now ≡ true }
     requires ordered { HasOrderedEnds drawing.now }
     ensures value { IfOk result (λ text. text ≡ drawn_text drawing.now) }

@@ -102,7 +102,8 @@ fn summary_text(alloc: Global, summary: &StitchSummary) -> Result<String, Memory
     )?)
 }
 
-fn piece_start(alloc: Global, block: u32, index: usize) -> Result<String, Memory>
+/// Returns the block and the number of a piece, both from 1.
+pub(crate) fn piece_start(alloc: Global, block: u32, index: usize) -> Result<String, Memory>
     ensures { IfOk result (λ text. string_bytes text
         ≡ codes "block " ++ (decimal (block + 1) ++ (codes " piece " ++ decimal (index + 1)))) }
 {
@@ -118,7 +119,8 @@ fn counts_text(alloc: Global, lines: usize, junctions: usize, odd: usize) -> Res
     Ok(format!(in alloc; " lines {lines} junctions {junctions} odd {odd}")?)
 }
 
-fn odd_count(alloc: Global, piece: &Piece) -> Result<usize, Memory>
+/// Returns the number of odd junctions of a piece.
+pub(crate) fn odd_count(alloc: Global, piece: &Piece) -> Result<usize, Memory>
     ensures { IfOk result (λ n. n ≡ length (odd_junctions (graph_of piece.now))) }
 {
     let odds = odd(alloc, piece)?;

@@ -1,13 +1,20 @@
-ghost use Rattle.command_words.specs.Names.{names_and_rest};
-ghost use Rattle.command_words.specs.ValidNames.{AreFileNames, file_names_value};
+ghost use Rattle.command_words.specs.ValidNames.{AreFileNames};
 ghost use Rattle.design_model.specs.WholeNumbers.{parsed_whole};
 ghost use Rattle.design_model.specs.declared.whole_number.Whole.TheVariants as whole;
-ghost use Rattle.drawing_commands.specs.Requests.{HasFileNames, drawing_order_of, gap_of, if_apart, order_of_request, parsed_drawing_edit_request, parsed_look, parsed_snap};
-ghost use Rattle.std.specs.Prelude.{◌≡◌, Some, IfSome, map, option_map, string_bytes};
+ghost use Rattle.drawing_commands.specs.DrawingEditWords.{first_mistaken_edit, parsed_drawing_edits};
+ghost use Rattle.drawing_commands.specs.Mistakes.{mistaken_word};
+ghost use Rattle.drawing_commands.specs.Names.{gap_of, gap_or_mistake, name_or_mistake, named_words, nothing_after, parsed_gap, parsed_names, unless_input};
+ghost use Rattle.drawing_commands.specs.Requests.{command_order, drawing_edit_parsed, edits_after, edits_parsed, HasFileNames, order_of_request, parsed_drawing_words, parsed_free, parsed_look, parsed_near, parsed_snap, parsed_space};
+ghost use Rattle.outside_io.specs.Files.{IsFileName};
+ghost use Rattle.std.specs.Prelude.{◌≡◌, ◌≤◌, Err, IfErr, IfOk, Ok, Some, length, map, option_map, string_bytes};
 
-use crate::drawing_edit_words::are_drawing_edits;
-use command_words::{FileNames, file_name, file_names, named_rest};
+use crate::drawing_edit_words::first_mistaken_edit;
+use crate::mistake::{Misfit, Mistake};
+use crate::space_words::parse_spacing;
+use command_words::FileNames;
 use design_model::{Whole, parse_whole};
+use outside_io::is_name;
+use spaced_lines::SpacingLimits;
 
 /// The gap where none is given, in tenths of a millimetre.
 const DEFAULT_GAP: u16 = 2;
@@ -28,95 +35,290 @@ pub enum DrawingRequest<'a> {
         gap: u16,
         names: FileNames<'a>,
     },
-    /// A spaced drawing.
-    Space(FileNames<'a>),
+    /// A spaced drawing, with what is given of the rule.
+    Space {
+        limits: SpacingLimits,
+        names: FileNames<'a>,
+    },
+    /// A drawing whose pieces have the best starts and ends.
+    Free(FileNames<'a>),
+    /// A drawing with little travel between its pieces.
+    Near(FileNames<'a>),
     /// An edited drawing. The edits are arguments.
     Edit {
         names: FileNames<'a>,
         edits: &'a [String],
     },
+    /// The usage text.
+    Help,
+    /// The name of the program, and its version.
+    Version,
 }
 
-/// Parses the arguments: `look DRAWING [GAP]`, `snap GAP DRAWING OUT`, `space DRAWING OUT` or
-/// `edit DRAWING OUT EDIT...`. Returns `None` for other arguments. Allocates nothing.
-pub fn drawing_request(words: &[String]) -> Option<DrawingRequest<'_>>
-    ensures value { option_map order_of_request result
-        ≡ drawing_order_of (map (λ word. string_bytes word) words.now) }
-    ensures sound { IfSome result HasFileNames }
-{
-    match words {
-        [command, rest @ ..] if command.as_str() == "look" => look_request(rest),
-        [command, rest @ ..] if command.as_str() == "snap" => snap_request(rest),
-        [command, rest @ ..] if command.as_str() == "space" => {
-            apart(file_names(rest)?).map(DrawingRequest::Space)
-        }
-        [command, rest @ ..] if command.as_str() == "edit" => edit_request(rest),
-        _ => None,
-    }
-}
+/// What the arguments of a command request, or the first that isn't understood.
+type Requested<'a> = Result<DrawingRequest<'a>, Mistake<'a>>;
 
-fn look_request(words: &[String]) -> Option<DrawingRequest<'_>>
-    ensures value { option_map order_of_request result
-        ≡ parsed_look (map (λ word. string_bytes word) words.now) }
-    ensures sound { IfSome result HasFileNames }
+/// Parses the arguments: `look DRAWING [GAP]`, `snap GAP DRAWING OUT`, `space DRAWING OUT [length=N] [leeway=N]`,
+/// `free DRAWING OUT`, `near DRAWING OUT`, `edit DRAWING OUT EDIT...`, `--help` or `--version`. The error is the first that isn't understood, and `None` without
+/// arguments. Allocates nothing.
+pub fn drawing_request(words: &[String]) -> Result<DrawingRequest<'_>, Option<Mistake<'_>>>
+    ensures ok { IfOk result (λ requested. parsed_drawing_words (map (λ word. string_bytes word) words.now)
+        ≡ Ok (order_of_request requested)) }
+    ensures err { IfErr result (λ mistake. parsed_drawing_words (map (λ word. string_bytes word) words.now)
+        ≡ Err (option_map mistaken_word mistake)) }
+    ensures sound { IfOk result HasFileNames }
 {
-    match words {
-        [file] => {
-            let file = file_name(file.as_str())?;
-            let gap = DEFAULT_GAP;
-            Some(DrawingRequest::Look { file, gap })
-        }
-        [file, gap] => {
-            let gap = parse_gap(gap.as_bytes())?;
-            let file = file_name(file.as_str())?;
-            Some(DrawingRequest::Look { file, gap })
-        }
-        _ => None,
-    }
-}
-
-fn snap_request(words: &[String]) -> Option<DrawingRequest<'_>>
-    ensures value { option_map order_of_request result
-        ≡ parsed_snap (map (λ word. string_bytes word) words.now) }
-    ensures sound { IfSome result HasFileNames }
-{
-    let [gap, rest @ ..] = words else {
-        return None;
+    let [command, rest @ ..] = words else {
+        return Err(None);
     };
-    let gap = parse_gap(gap.as_bytes())?;
-    let names = apart(file_names(rest)?)?;
-    Some(DrawingRequest::Snap { gap, names })
-}
-
-fn edit_request(words: &[String]) -> Option<DrawingRequest<'_>>
-    ensures value { option_map order_of_request result ≡ parsed_drawing_edit_request
-        (names_and_rest (map (λ word. string_bytes word) words.now)) }
-    ensures sound { IfSome result HasFileNames }
-{
-    let (names, edits) = named_rest(words)?;
-    if edits.is_empty() || !are_drawing_edits(edits) {
-        return None;
+    match command_request(command.as_str(), rest) {
+        Ok(requested) => Ok(requested),
+        Err(mistake) => Err(Some(mistake)),
     }
-    let names = apart(names)?;
-    Some(DrawingRequest::Edit { names, edits })
 }
 
-/// Returns two names that differ.
-fn apart(names: FileNames<'_>) -> Option<FileNames<'_>>
-    requires { AreFileNames names }
-    ensures value { option_map file_names_value result
-        ≡ if_apart (Some (names.entry.input.now, names.entry.output.now)) }
-    ensures names { IfSome result AreFileNames }
+fn command_request<'a>(command: &'a str, words: &'a [String]) -> Requested<'a>
+    ensures ok { IfOk result (λ requested.
+        command_order command.now (map (λ word. string_bytes word) words.now) ≡ Ok (order_of_request requested)) }
+    ensures err { IfErr result (λ mistake.
+        command_order command.now (map (λ word. string_bytes word) words.now) ≡ Err (mistaken_word mistake)) }
+    ensures sound { IfOk result HasFileNames }
 {
-    if names.input == names.output {
-        None
+    match command {
+        name if name == "look" => look_request(command, words),
+        name if name == "snap" => snap_request(command, words),
+        name if name == "space" => space_request(command, words),
+        name if name == "free" => free_request(command, words),
+        name if name == "near" => near_request(command, words),
+        name if name == "edit" => edit_request(command, words),
+        name if name == "--help" => alone(DrawingRequest::Help, words),
+        name if name == "--version" => alone(DrawingRequest::Version, words),
+        _ => Err(Mistake {
+            word: command,
+            why: Misfit::NotACommand,
+        }),
+    }
+}
+
+fn look_request<'a>(command: &'a str, words: &'a [String]) -> Requested<'a>
+    ensures ok { IfOk result (λ requested.
+        parsed_look command.now (map (λ word. string_bytes word) words.now) ≡ Ok (order_of_request requested)) }
+    ensures err { IfErr result (λ mistake.
+        parsed_look command.now (map (λ word. string_bytes word) words.now) ≡ Err (mistaken_word mistake)) }
+    ensures sound { IfOk result HasFileNames }
+{
+    let [file, rest @ ..] = words else {
+        return Err(Mistake {
+            word: command,
+            why: Misfit::NoFile,
+        });
+    };
+    let file = named(file.as_str())?;
+    let gap = gap_after(rest)?;
+    Ok(DrawingRequest::Look { file, gap })
+}
+
+/// Parses the arguments after the file of `look`.
+fn gap_after(words: &[String]) -> Result<u16, Mistake<'_>>
+    ensures ok { IfOk result (λ gap. parsed_gap (map (λ word. string_bytes word) words.now) ≡ Ok gap) }
+    ensures err { IfErr result (λ mistake.
+        parsed_gap (map (λ word. string_bytes word) words.now) ≡ Err (mistaken_word mistake)) }
+{
+    match words {
+        [] => Ok(DEFAULT_GAP),
+        [gap] => parse_gap(gap.as_str()),
+        [gap, more, ..] => {
+            parse_gap(gap.as_str())?;
+            Err(Mistake {
+                word: more.as_str(),
+                why: Misfit::NotUnderstood,
+            })
+        }
+    }
+}
+
+fn snap_request<'a>(command: &'a str, words: &'a [String]) -> Requested<'a>
+    ensures ok { IfOk result (λ requested.
+        parsed_snap command.now (map (λ word. string_bytes word) words.now) ≡ Ok (order_of_request requested)) }
+    ensures err { IfErr result (λ mistake.
+        parsed_snap command.now (map (λ word. string_bytes word) words.now) ≡ Err (mistaken_word mistake)) }
+    ensures sound { IfOk result HasFileNames }
+{
+    let [gap_word, rest @ ..] = words else {
+        return Err(Mistake {
+            word: command,
+            why: Misfit::NoGap,
+        });
+    };
+    let gap = parse_gap(gap_word.as_str())?;
+    let (names, after) = named_rest(gap_word.as_str(), rest)?;
+    alone(DrawingRequest::Snap { gap, names }, after)
+}
+
+fn space_request<'a>(command: &'a str, words: &'a [String]) -> Requested<'a>
+    ensures ok { IfOk result (λ requested.
+        parsed_space command.now (map (λ word. string_bytes word) words.now) ≡ Ok (order_of_request requested)) }
+    ensures err { IfErr result (λ mistake.
+        parsed_space command.now (map (λ word. string_bytes word) words.now) ≡ Err (mistaken_word mistake)) }
+    ensures sound { IfOk result HasFileNames }
+{
+    let (names, after) = named_rest(command, words)?;
+    let limits = parse_spacing(after)?;
+    Ok(DrawingRequest::Space { limits, names })
+}
+
+fn free_request<'a>(command: &'a str, words: &'a [String]) -> Requested<'a>
+    ensures ok { IfOk result (λ requested.
+        parsed_free command.now (map (λ word. string_bytes word) words.now) ≡ Ok (order_of_request requested)) }
+    ensures err { IfErr result (λ mistake.
+        parsed_free command.now (map (λ word. string_bytes word) words.now) ≡ Err (mistaken_word mistake)) }
+    ensures sound { IfOk result HasFileNames }
+{
+    let (names, after) = named_rest(command, words)?;
+    alone(DrawingRequest::Free(names), after)
+}
+
+fn near_request<'a>(command: &'a str, words: &'a [String]) -> Requested<'a>
+    ensures ok { IfOk result (λ requested.
+        parsed_near command.now (map (λ word. string_bytes word) words.now) ≡ Ok (order_of_request requested)) }
+    ensures err { IfErr result (λ mistake.
+        parsed_near command.now (map (λ word. string_bytes word) words.now) ≡ Err (mistaken_word mistake)) }
+    ensures sound { IfOk result HasFileNames }
+{
+    let (names, after) = named_rest(command, words)?;
+    alone(DrawingRequest::Near(names), after)
+}
+
+fn edit_request<'a>(command: &'a str, words: &'a [String]) -> Requested<'a>
+    ensures ok { IfOk result (λ requested.
+        drawing_edit_parsed command.now (map (λ word. string_bytes word) words.now) ≡ Ok (order_of_request requested)) }
+    ensures err { IfErr result (λ mistake.
+        drawing_edit_parsed command.now (map (λ word. string_bytes word) words.now) ≡ Err (mistaken_word mistake)) }
+    ensures sound { IfOk result HasFileNames }
+{
+    let (names, edits) = named_rest(command, words)?;
+    match edits {
+        [] => Err(Mistake {
+            word: names.output,
+            why: Misfit::NoEdit,
+        }),
+        [_, ..] => edits_request(names, edits),
+    }
+}
+
+fn edits_request<'a>(names: FileNames<'a>, edits: &'a [String]) -> Requested<'a>
+    requires names { AreFileNames names }
+    requires some { 1 ≤ length edits.now }
+    ensures ok { IfOk result (λ requested. edits_parsed names.entry.input.now names.entry.output.now
+        (map (λ word. string_bytes word) edits.now) ≡ Ok (order_of_request requested)) }
+    ensures err { IfErr result (λ mistake. edits_parsed names.entry.input.now names.entry.output.now
+        (map (λ word. string_bytes word) edits.now) ≡ Err (mistaken_word mistake)) }
+    ensures sound { IfOk result HasFileNames }
+{
+    match first_mistaken_edit(edits) {
+        Some(word) => Err(Mistake {
+            word,
+            why: Misfit::NotAnEdit,
+        }),
+        None => Ok(DrawingRequest::Edit { names, edits }),
+    }
+}
+
+/// Returns a request after which no argument is left.
+fn alone<'a>(requested: DrawingRequest<'a>, words: &'a [String]) -> Requested<'a>
+    requires { HasFileNames requested }
+    ensures ok { IfOk result (λ made. nothing_after (order_of_request requested.entry)
+        (map (λ word. string_bytes word) words.now) ≡ Ok (order_of_request made)) }
+    ensures err { IfErr result (λ mistake. nothing_after (order_of_request requested.entry)
+        (map (λ word. string_bytes word) words.now) ≡ Err (mistaken_word mistake)) }
+    ensures sound { IfOk result HasFileNames }
+{
+    match words {
+        [] => Ok(requested),
+        [word, ..] => Err(Mistake {
+            word: word.as_str(),
+            why: Misfit::NotUnderstood,
+        }),
+    }
+}
+
+/// Returns the two different file names with which the arguments after another begin, and those after them.
+fn named_rest<'a>(
+    before: &'a str,
+    words: &'a [String],
+) -> Result<(FileNames<'a>, &'a [String]), Mistake<'a>>
+    ensures ok { IfOk result (λ all. parsed_names before.now (map (λ word. string_bytes word) words.now)
+        ≡ Ok (named_words all.0 (map (λ word. string_bytes word) all.1.now))) }
+    ensures err { IfErr result (λ mistake.
+        parsed_names before.now (map (λ word. string_bytes word) words.now) ≡ Err (mistaken_word mistake)) }
+    ensures names { IfOk result (λ all. AreFileNames all.0) }
+{
+    match words {
+        [input, output, rest @ ..] => {
+            let input = named(input.as_str())?;
+            let output = named(output.as_str())?;
+            let output = apart(input, output)?;
+            Ok((FileNames { input, output }, rest))
+        }
+        [input] => Err(Mistake {
+            word: input.as_str(),
+            why: Misfit::NoFile,
+        }),
+        [] => Err(Mistake {
+            word: before,
+            why: Misfit::NoFile,
+        }),
+    }
+}
+
+/// Returns an argument that is a file name.
+fn named(word: &str) -> Result<&str, Mistake<'_>>
+    ensures ok { IfOk result (λ name. name_or_mistake word.now ≡ Ok name.now) }
+    ensures err { IfErr result (λ mistake. name_or_mistake word.now ≡ Err (mistaken_word mistake)) }
+    ensures name { IfOk result (λ name. IsFileName name.now) }
+{
+    if is_name(word) {
+        Ok(word)
     } else {
-        Some(names)
+        Err(Mistake {
+            word,
+            why: Misfit::NotAFileName,
+        })
+    }
+}
+
+/// Returns the name of the output, if it differs from that of the input.
+fn apart<'a>(input: &str, output: &'a str) -> Result<&'a str, Mistake<'a>>
+    requires { IsFileName output.now }
+    ensures ok { IfOk result (λ name. unless_input input.now output.now ≡ Ok name.now) }
+    ensures err { IfErr result (λ mistake. unless_input input.now output.now ≡ Err (mistaken_word mistake)) }
+    ensures name { IfOk result (λ name. IsFileName name.now) }
+{
+    if input == output {
+        Err(Mistake {
+            word: output,
+            why: Misfit::IsInput,
+        })
+    } else {
+        Ok(output)
     }
 }
 
 /// Parses a gap from 0 to 100.
-fn parse_gap(word: &[u8]) -> Option<u16>
+fn parse_gap(word: &str) -> Result<u16, Mistake<'_>>
+    ensures ok { IfOk result (λ gap. gap_or_mistake word.now ≡ Ok gap) }
+    ensures err { IfErr result (λ mistake. gap_or_mistake word.now ≡ Err (mistaken_word mistake)) }
+{
+    match gap_in(word.as_bytes()) {
+        Some(gap) => Ok(gap),
+        None => Err(Mistake {
+            word,
+            why: Misfit::GapRange,
+        }),
+    }
+}
+
+fn gap_in(word: &[u8]) -> Option<u16>
     ensures { result ≡ gap_of (parsed_whole word.now) }
 {
     match parse_whole(word) {

@@ -1,17 +1,21 @@
-ghost use Rattle.drawing_commands.specs.Commands.{drawing_usage_text, stitch_drawing};
-ghost use Rattle.drawing_commands.specs.Requests.{drawing_order_of};
+ghost use Rattle.drawing_commands.specs.Commands.{drawing_mistake, drawing_order_of, stitch_drawing_after};
+ghost use Rattle.drawing_commands.specs.Mistakes.{mistaken_word};
 ghost use Rattle.program_shell.specs.ProgramRuns.{RunEnds};
 ghost use Rattle.program_shell.specs.RunViews.{views_of};
-ghost use Rattle.std.specs.Prelude.{◌≡◌, codes, map, string_bytes};
+ghost use Rattle.std.specs.Prelude.{◌≡◌, map, option_map, string_bytes};
 
 use crate::commands::make_product;
+use crate::mistake::Mistake;
+use crate::requests::drawing_request;
+pub use crate::usage::NAME;
+use crate::usage::usage_text;
 use outside_io::{Sink, Store};
 use program_shell::{Status, finish};
 use std::alloc::Global;
 
 /// Runs the command that the arguments request, and returns its exit status. Reads the inputs from the store.
 /// If nothing is refused, writes the outputs there, then prints the report to `out`. Otherwise prints one
-/// line, or the usage text, to `err`.
+/// line, or the usage text, to `err`. Where an argument isn't understood, a line about the first precedes the usage text.
 pub fn run<S: Store, O: Sink, E: Sink>(
     alloc: Global,
     words: &[String],
@@ -19,24 +23,22 @@ pub fn run<S: Store, O: Sink, E: Sink>(
     out: &mut O,
     err: &mut E,
 ) -> Status
-    ensures { RunEnds stitch_drawing (drawing_order_of (map (λ word. string_bytes word) words.now))
+    ensures { RunEnds (stitch_drawing_after (drawing_mistake (map (λ word. string_bytes word) words.now)))
+        (drawing_order_of (map (λ word. string_bytes word) words.now))
         (views_of (S.view store.old) (O.view out.old) (E.view err.old))
         (views_of (S.view store.new) (O.view out.new) (E.view err.new)) result }
 {
+    let usage = usage_text(mistake_in(words));
     let made = make_product(alloc, words, store);
-    finish(name(), usage(), made, store, out, err)
+    finish(NAME, usage.as_slice(), made, store, out, err)
 }
 
-/// Returns the name of the program, with which each line on the standard error begins.
-pub fn name() -> &'static [u8]
-    ensures { result.now ≡ codes "stitch_drawing" }
+/// Returns the first argument that isn't understood, if there is one.
+fn mistake_in(words: &[String]) -> Option<Mistake<'_>>
+    ensures { option_map mistaken_word result ≡ drawing_mistake (map (λ word. string_bytes word) words.now) }
 {
-    b"stitch_drawing"
-}
-
-/// Returns the usage text.
-fn usage() -> &'static [u8]
-    ensures { result.now ≡ drawing_usage_text }
-{
-    b"usage: stitch_drawing look DRAWING [GAP]\n       stitch_drawing snap GAP DRAWING OUT\n       stitch_drawing space DRAWING OUT\n       stitch_drawing edit DRAWING OUT EDIT...\n"
+    match drawing_request(words) {
+        Ok(_) => None,
+        Err(mistake) => mistake,
+    }
 }

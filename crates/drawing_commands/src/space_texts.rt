@@ -1,11 +1,12 @@
 ghost use Rattle.drawing_commands.specs.SpaceOrders.{space_report};
-ghost use Rattle.drawing_commands.specs.SpaceTexts.{cost_change_text, point_change_text};
+ghost use Rattle.drawing_commands.specs.SpaceTexts.{count_change_text, piece_count_text, span_change_text};
 ghost use Rattle.line_graph.specs.GrowingDrawings.{draw_is_out_of_memory, point_count};
 ghost use Rattle.program_shell.specs.FileTexts.{text_about};
 ghost use Rattle.program_shell.specs.StepOutcomes.{IsFaultFailure, IsRefusalWith};
 ghost use Rattle.program_texts.specs.DrawingTexts.{draw_kind_text};
 ghost use Rattle.std.specs.Prelude.{◌≡◌, IfOk, string_bytes};
 
+use crate::length_span::{LengthSpan, length_span};
 use design_model::{Bytes, Memory};
 use line_graph::{DrawKind, Drawing, drawing_cost};
 use program_shell::{Failure, describe_file, refused, text_bytes};
@@ -21,23 +22,51 @@ pub(crate) fn describe_space(
 ) -> Result<Bytes, Memory>
     ensures { IfOk result (λ text. text ≡ space_report before.now after.now pieces) }
 {
-    let points = describe_points(alloc, point_total(before), point_total(after))?;
-    let costs = describe_costs(alloc, drawing_cost(before), drawing_cost(after), pieces)?;
-    let mut text = text_bytes(points);
-    text.append(costs.as_bytes())?;
+    let counts = describe_counts(
+        alloc,
+        point_total(before),
+        point_total(after),
+        drawing_cost(before),
+        drawing_cost(after),
+    )?;
+    let spans = describe_spans(
+        alloc,
+        length_span(before.lines()),
+        length_span(after.lines()),
+    )?;
+    let piece_count = describe_pieces(alloc, pieces)?;
+    let mut text = text_bytes(counts);
+    text.append(spans.as_bytes())?;
+    text.append(piece_count.as_bytes())?;
     Ok(text)
 }
 
-fn describe_points(alloc: Global, before: usize, after: usize) -> Result<String, Memory>
-    ensures { IfOk result (λ text. string_bytes text ≡ point_change_text before after) }
+fn describe_counts(
+    alloc: Global,
+    points: usize,
+    less: usize,
+    stitches: u32,
+    fewer: u32,
+) -> Result<String, Memory>
+    ensures { IfOk result (λ text. string_bytes text ≡ count_change_text points less stitches fewer) }
 {
-    Ok(format!(in alloc; "points {before} to {after} ")?)
+    Ok(format!(in alloc; "points {points} to {less} stitches {stitches} to {fewer} ")?)
 }
 
-fn describe_costs(alloc: Global, before: u32, after: u32, pieces: usize) -> Result<String, Memory>
-    ensures { IfOk result (λ text. string_bytes text ≡ cost_change_text before after pieces) }
+fn describe_spans(alloc: Global, before: LengthSpan, after: LengthSpan) -> Result<String, Memory>
+    ensures { IfOk result (λ text. string_bytes text ≡ span_change_text before after) }
 {
-    Ok(format!(in alloc; "cost {before} to {after} pieces {pieces}\n")?)
+    let short = before.shortest / 100;
+    let shorter = after.shortest / 100;
+    let long = before.longest / 100;
+    let longer = after.longest / 100;
+    Ok(format!(in alloc; "shortest {short} to {shorter} longest {long} to {longer} ")?)
+}
+
+fn describe_pieces(alloc: Global, pieces: usize) -> Result<String, Memory>
+    ensures { IfOk result (λ text. string_bytes text ≡ piece_count_text pieces) }
+{
+    Ok(format!(in alloc; "pieces {pieces}\n")?)
 }
 
 /// Returns the number of points of a drawing's lines.

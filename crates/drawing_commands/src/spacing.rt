@@ -14,32 +14,44 @@ use line_graph::{Drawing, pieces};
 use outside_io::Store;
 use program_inputs::{LinesRead, lines_in};
 use program_shell::{Made, Product};
-use spaced_lines::{SpacedDrawing, space};
+use spaced_lines::{SpacedDrawing, SpacingLimits, space};
 use std::alloc::Global;
 
 /// Spaces a drawing, and writes its lines whole, with its starts and ends.
 pub(crate) fn space_file<'a, S: Store>(
     alloc: Global,
+    limits: SpacingLimits,
     names: FileNames<'a>,
     store: &mut S,
 ) -> Made<'a>
     requires { AreFileNames names }
-    ensures { RunsPlan (space_plan (space_order names.entry.input.now names.entry.output.now))
+    ensures { RunsPlan (space_plan (space_order limits names.entry.input.now names.entry.output.now))
         (S.view store.old) (S.view store.new) result }
 {
     let read = lines_in(alloc, store, names.input)?;
-    space_lines_of(alloc, names, &read)
+    space_lines_of(alloc, limits, names, &read)
 }
 
 /// Spaces lines as they are drawn, with the starts and ends of their drawing.
-fn space_lines_of<'a>(alloc: Global, names: FileNames<'a>, read: &LinesRead) -> Made<'a>
+fn space_lines_of<'a>(
+    alloc: Global,
+    limits: SpacingLimits,
+    names: FileNames<'a>,
+    read: &LinesRead,
+) -> Made<'a>
     requires names { AreFileNames names }
     requires ordered { HasOrderedEnds read.now.drawing }
-    ensures { RunsPurePlan (space_lines (space_order names.entry.input.now names.entry.output.now)
+    ensures { RunsPurePlan (space_lines (space_order limits names.entry.input.now names.entry.output.now)
         read.now) result }
 {
     let drawn = &read.drawn.drawing;
-    match space(alloc, drawn, read.drawing.starts(), read.drawing.ends()) {
+    match space(
+        alloc,
+        limits,
+        drawn,
+        read.drawing.starts(),
+        read.drawing.ends(),
+    ) {
         Ok(spaced) => {
             let product = space_product(alloc, names.output, drawn, &spaced)?;
             Ok(product)

@@ -1,0 +1,61 @@
+-- The command `free`: pieces without start and end get the best ones. The lines are written whole,
+-- as they were drawn.
+use Rattle.std.specs.Prelude.{ℕ, List, Option, Some, None, Result, Ok, Err}
+use Rattle.drawing_text.specs.declared.draw_fault.DrawFault.{DrawFault}
+use Rattle.drawing_text.specs.declared.lines_read.LinesRead.{LinesRead}
+use Rattle.drawing_text.specs.DrawingLines.{lines_read}
+use Rattle.free_ends.specs.declared.freed_drawing.FreedDrawing.{FreedDrawing}
+use Rattle.free_ends.specs.declared.joined_lines.JoinedLines.{JoinedLines}
+use Rattle.free_ends.specs.FreedDrawings.{IsFreed, lines_joined}
+use Rattle.line_graph.specs.declared.draw_kind.DrawKind.{DrawKind}
+use Rattle.line_graph.specs.Drawings.{DrawingValue}
+use Rattle.program_shell.specs.FileTexts.{text_about}
+use Rattle.program_shell.specs.Plans.{Plan, accepts, reads, refuses}
+use Rattle.program_shell.specs.Products.{ProductValue}
+use Rattle.program_texts.specs.DrawingTexts.{draw_kind_text}
+use Rattle.drawing_commands.specs.FaultTexts.{plan_after_reading}
+use Rattle.drawing_commands.specs.FreeTexts.{free_report, written_founds}
+use Rattle.drawing_commands.specs.WholeProducts.{IsWholeProduct}
+
+-- The order of `free`: the drawing to read, and the file to write.
+pub record FreeOrder : Type 0 where
+  pub input : List ℕ
+  pub output : List ℕ
+
+-- The order of `free`, from its names.
+abbrev pub free_order : (input output : List ℕ) → FreeOrder
+free_order input output = record { input = input; output = output }
+
+-- The drawing that is written: the freed one, or the one before where there is none.
+abbrev pub written_drawing : Option DrawingValue → DrawingValue → DrawingValue
+written_drawing None before = before
+written_drawing (Some d) before = d
+
+-- The product of `free`: the lines as they are drawn, with the best ends of the pieces that had
+-- none, and a report on them.
+pub record IsFreeProduct (output : List ℕ) (drawn before : DrawingValue) (product : ProductValue)
+    : Type 0 where
+  pub freed : FreedDrawing
+  pub is : IsFreed drawn before freed
+  pub written : IsWholeProduct output drawn (written_drawing freed.joined before)
+      (free_report freed.pieces (written_founds freed.joined freed.found)) product
+
+-- The plan for lines as they are drawn and their joined drawing: it is accepted, and a fault is
+-- refused.
+abbrev pub free_made : FreeOrder → Result JoinedLines DrawKind → Plan
+free_made order (Ok lines) = accepts (IsFreeProduct order.output lines.drawn lines.joined)
+free_made order (Err why) = refuses (text_about order.input (draw_kind_text why))
+
+-- The plan for a drawing and its lines as they are drawn: these are joined, with the starts and
+-- ends of the drawing.
+abbrev pub free_lines : FreeOrder → LinesRead → Plan
+free_lines order read = free_made order
+    (lines_joined read.drawn.drawing read.drawing.starts read.drawing.ends)
+
+-- The plan for the result of reading the drawing: a fault is refused.
+abbrev pub free_read : FreeOrder → Result LinesRead DrawFault → Plan
+free_read order = plan_after_reading order.input (free_lines order)
+
+-- The plan of `free`: read the drawing file, then write the freed drawing.
+abbrev pub free_plan : FreeOrder → Plan
+free_plan order = reads order.input (λ bytes. free_read order (lines_read bytes))

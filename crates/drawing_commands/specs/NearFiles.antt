@@ -1,0 +1,69 @@
+-- The command `near`: the pieces of each block are sewn in an order with little travel. The drawing
+-- is written with its lines cut where they meet.
+use Rattle.std.specs.Prelude.{◌≡◌, ℕ, ◌==◌, Bool, true, false, List, ◌++◌, Result, Ok, Err, codes, decimal, length}
+use Rattle.design_model.specs.TextLines.{newline}
+use Rattle.drawing_text.specs.declared.draw_fault.DrawFault.{DrawFault}
+use Rattle.drawing_text.specs.DrawingText.{drawing_of}
+use Rattle.drawing_text.specs.EndTexts.{drawn_text}
+use Rattle.line_graph.specs.declared.draw_kind.DrawKind.{DrawKind}
+use Rattle.line_graph.specs.Drawings.{DrawingValue}
+use Rattle.near_pieces.specs.declared.near_drawing.NearDrawing.{NearDrawing}
+use Rattle.near_pieces.specs.NearDrawings.{IsNear, drawn_with}
+use Rattle.program_shell.specs.FileTexts.{text_about}
+use Rattle.program_shell.specs.Plans.{Plan, accepts, reads, refuses}
+use Rattle.program_shell.specs.Products.{ProductValue, one_file_product}
+use Rattle.program_texts.specs.DrawingTexts.{draw_kind_text}
+use Rattle.drawing_commands.specs.FaultTexts.{plan_after_reading}
+use Rattle.drawing_commands.specs.LookTexts.{tenths_text}
+
+-- The order of `near`: the drawing to read, and the file to write.
+pub record NearFileOrder : Type 0 where
+  pub input : List ℕ
+  pub output : List ℕ
+
+-- The order of `near`, from its names.
+abbrev pub near_file_order : (input output : List ℕ) → NearFileOrder
+near_file_order input output = record { input = input; output = output }
+
+-- The report of `near`: the travel before and after, in tenths of a millimetre, and the number of
+-- pieces.
+abbrev pub near_report : (before after pieces : ℕ) → List ℕ
+near_report before after pieces = codes "travel " ++ (tenths_text before ++ (codes " to "
+    ++ (tenths_text after ++ (codes " pieces " ++ (decimal pieces ++ newline)))))
+
+-- The product of `near`: the canonical text of the near drawing, which is read as that drawing, and
+-- the report.
+pub record IsNearProduct (output : List ℕ) (before : DrawingValue) (product : ProductValue)
+    : Type 0 where
+  pub found : NearDrawing
+  pub near : IsNear before found
+  pub again : drawing_of (drawn_text found.drawing) ≡ Ok found.drawing
+  pub made : product ≡ one_file_product output (drawn_text found.drawing)
+      (near_report found.before found.after found.pieces)
+
+-- What is wrong with a drawing of version 1 whose pieces change where its lines are cut.
+abbrev pub version_one_text : List ℕ
+version_one_text = codes "redwork 1 can't be kept: migrate it first"
+
+-- The plan for a joined drawing: it is accepted if no line was cut, since version 1 would not cut
+-- it.
+abbrev pub near_kept : NearFileOrder → DrawingValue → Bool → Plan
+near_kept order before true = accepts (IsNearProduct order.output before)
+near_kept order before false = refuses (text_about order.input version_one_text)
+
+-- The plan for the joined drawing of a number of lines: a fault is refused.
+abbrev pub near_made : NearFileOrder → (lines : ℕ) → Result DrawingValue DrawKind → Plan
+near_made order lines (Ok before) = near_kept order before (length before.lines == lines)
+near_made order lines (Err why) = refuses (text_about order.input (draw_kind_text why))
+
+-- The plan for a drawing: its lines are cut where they meet.
+abbrev pub near_drawing : NearFileOrder → DrawingValue → Plan
+near_drawing order d = near_made order (length d.lines) (drawn_with d d.lines d.starts)
+
+-- The plan for the result of reading the drawing: a fault is refused.
+abbrev pub near_read : NearFileOrder → Result DrawingValue DrawFault → Plan
+near_read order = plan_after_reading order.input (near_drawing order)
+
+-- The plan of `near`: read the drawing file, then write the near drawing.
+abbrev pub near_plan : NearFileOrder → Plan
+near_plan order = reads order.input (λ bytes. near_read order (drawing_of bytes))

@@ -1,0 +1,99 @@
+ghost use Rattle.command_words.specs.ValidNames.{AreFileNames};
+ghost use Rattle.drawing_commands.specs.NearFiles.{IsNearProduct, near_drawing, near_file_order, near_kept, near_plan, near_report, version_one_text};
+ghost use Rattle.line_graph.specs.EndOrders.{HasOrderedEnds};
+ghost use Rattle.line_graph.specs.JoinedDrawings.{is_joined};
+ghost use Rattle.program_shell.specs.FileTexts.{text_about};
+ghost use Rattle.program_shell.specs.Products.{product_value};
+ghost use Rattle.program_shell.specs.StepOutcomes.{IsRefusalWith, RunsPlan, RunsPurePlan};
+ghost use Rattle.std.specs.Prelude.{◌≡◌, ◌==◌, IfOk, length, string_bytes, true};
+
+use crate::edited_files::text_of;
+use crate::space_texts::space_failure;
+use command_words::FileNames;
+use design_model::Memory;
+use drawing_text::texts_order_ends;
+use line_graph::Drawing;
+use near_pieces::{NearDrawing, draw_with, near};
+use outside_io::Store;
+use program_inputs::drawing_in;
+use program_shell::{Failure, Made, Product, describe_file, one_output, refused, text_bytes};
+use std::alloc::Global;
+
+/// Sews the pieces of each block of a drawing in an order with little travel.
+pub(crate) fn near_file<'a, S: Store>(
+    alloc: Global,
+    names: FileNames<'a>,
+    store: &mut S,
+) -> Made<'a>
+    requires { AreFileNames names }
+    ensures { RunsPlan (near_plan (near_file_order names.entry.input.now names.entry.output.now))
+        (S.view store.old) (S.view store.new) result }
+{
+    texts_order_ends();
+    let drawing = drawing_in(alloc, store, names.input)?;
+    near_read_drawing(alloc, names, &drawing)
+}
+
+/// Cuts the lines of a drawing where they meet, and sews its pieces near each other.
+fn near_read_drawing<'a>(alloc: Global, names: FileNames<'a>, drawing: &Drawing) -> Made<'a>
+    requires names { AreFileNames names }
+    requires ordered { HasOrderedEnds drawing.now }
+    ensures { RunsPurePlan (near_drawing (near_file_order names.entry.input.now names.entry.output.now)
+        drawing.now) result }
+{
+    match draw_with(alloc, drawing, drawing.lines(), drawing.starts()) {
+        Ok(before) => near_if_kept(alloc, names, &before, drawing.line_count()),
+        Err(why) => Err(space_failure(alloc, names.input, why)),
+    }
+}
+
+/// Sews the pieces of a joined drawing near each other, if it has as many lines as it was read with.
+fn near_if_kept<'a>(alloc: Global, names: FileNames<'a>, before: &Drawing, lines: u32) -> Made<'a>
+    requires names { AreFileNames names }
+    requires joined { is_joined before.now ≡ true }
+    requires ordered { HasOrderedEnds before.now }
+    ensures { RunsPurePlan (near_kept (near_file_order names.entry.input.now names.entry.output.now)
+        before.now (length before.now.lines == lines)) result }
+{
+    if before.line_count() != lines {
+        return Err(not_kept(alloc, names.input));
+    }
+    let product = near_product(alloc, names.output, before)?;
+    Ok(product)
+}
+
+/// Returns the refusal of a drawing of version 1 whose lines would be cut, or out of memory.
+fn not_kept<'a>(alloc: Global, name: &str) -> Failure<'a>
+    ensures { IsRefusalWith (text_about name.now version_one_text) result }
+{
+    refused(describe_file(alloc, name, version_one()))
+}
+
+/// Returns what is wrong with a drawing of version 1 whose lines would be cut.
+fn version_one() -> &'static str
+    ensures { result.now ≡ version_one_text }
+{
+    "redwork 1 can't be kept: migrate it first"
+}
+
+fn near_product<'a>(alloc: Global, output: &'a str, before: &Drawing) -> Result<Product<'a>, Memory>
+    requires joined { is_joined before.now ≡ true }
+    requires ordered { HasOrderedEnds before.now }
+    ensures { IfOk result (λ product. IsNearProduct output.now before.now (product_value product)) }
+{
+    let found = near(alloc, before)?;
+    let report = describe_near(alloc, &found)?;
+    let content = text_of(alloc, &found.drawing)?;
+    let product = one_output(alloc, output, content, text_bytes(report))?;
+    Ok(product)
+}
+
+fn describe_near(alloc: Global, found: &NearDrawing) -> Result<String, Memory>
+    ensures { IfOk result (λ text. string_bytes text
+        ≡ near_report found.now.before found.now.after found.now.pieces) }
+{
+    let before = found.before / 100;
+    let after = found.after / 100;
+    let pieces = found.pieces;
+    Ok(format!(in alloc; "travel {before} to {after} pieces {pieces}\n")?)
+}
