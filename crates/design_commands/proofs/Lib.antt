@@ -1,3 +1,6 @@
 mod CommandLemmas
 mod FormatLemmas
+pub mod Names
+mod RequestFacts
+mod TextFacts
 mod ThreadNameFacts

@@ -1,5 +1,7 @@
 -- The commands of stitch_design: the order that the arguments request, its plan, and the program.
-use Rattle.std.specs.Prelude.{◌≡◌, ℕ, List, [], Option, Some, None, Result, Ok, Err, option_map}
+use Rattle.std.specs.Prelude.{◌≡◌, ℕ, List, [], ◌∷◌, Option, Some, None, Result, Ok, Err, option_map}
+use Rattle.companion_words.specs.MistakenWords.{MistakenWord}
+use Rattle.companion_words.specs.UsageTexts.{usage_with, version_line}
 use Rattle.format_traits.specs.Endings.{format_of}
 use Rattle.format_traits.specs.Meanings.{Meaning}
 use Rattle.program_shell.specs.Plans.{Plan, accepts}
@@ -7,27 +9,30 @@ use Rattle.program_shell.specs.Products.{report_product}
 use Rattle.program_shell.specs.Programs.{Program}
 use Rattle.design_commands.specs.declared.mistake.Misfit.TheVariants as misfit
 use Rattle.design_commands.specs.CompareOrders.{CompareOrder, compare_order, compare_plan}
-use Rattle.design_commands.specs.Mistakes.{MistakenWord, mistake_at}
-use Rattle.design_commands.specs.Requests.{RequestedDesign, compare, help, list, look, palette, parsed_design_words, pass, version}
+use Rattle.design_commands.specs.EditOrders.{DesignEditOrder, design_edit_order, design_edit_plan}
+use Rattle.design_commands.specs.Mistakes.{mistake_at}
+use Rattle.design_commands.specs.EditRequests.{RequestedDesign, compare, edit, help, list, look, palette, pass, version}
+use Rattle.design_commands.specs.Requests.{parsed_design_words}
 use Rattle.design_commands.specs.ReviewOrders.{ReviewOrder, design_look_plan, pass_plan, review_order}
 use Rattle.design_commands.specs.ThreadOrders.{ThreadsOrder, threads_order, threads_plan}
 use Rattle.design_commands.specs.ThreadTexts.{palette_report}
-use Rattle.design_commands.specs.Usage.{design_program_name, design_usage_text, usage_after, version_line}
+use Rattle.design_commands.specs.Usage.{design_program_name, design_usage_text}
 
 -- An order, with a case for each command. The last prints a text that depends on no file.
 pub data DesignOrder : Type 0 where
   looking : ReviewOrder → DesignOrder
   passing : ReviewOrder → DesignOrder
+  editing : DesignEditOrder → DesignOrder
   comparing : CompareOrder → DesignOrder
   listing : ThreadsOrder → DesignOrder
   telling : (text : List ℕ) → DesignOrder
 
--- The order of `compare`, if both formats are known.
-abbrev pub compare_if_known : (Meaning → Meaning → CompareOrder) → (m n : Option Meaning)
+-- The order of two files, if both formats are known.
+abbrev pub if_both_known : (Meaning → Meaning → DesignOrder) → (m n : Option Meaning)
     → Option DesignOrder
-compare_if_known made (Some m) (Some n) = Some (comparing (made m n))
-compare_if_known made None n = None
-compare_if_known made (Some m) None = None
+if_both_known made (Some m) (Some n) = Some (made m n)
+if_both_known made None n = None
+if_both_known made (Some m) None = None
 
 -- The order of a request, if the formats of its files are known.
 abbrev pub order_of_design : List Meaning → RequestedDesign → Option DesignOrder
@@ -35,14 +40,17 @@ order_of_design formats (look file limits) =
     option_map (λ m. looking (review_order file limits m)) (format_of formats file)
 order_of_design formats (pass file limits) =
     option_map (λ m. passing (review_order file limits m)) (format_of formats file)
+order_of_design formats (edit input output changes) =
+    if_both_known (λ m n. editing (design_edit_order input output changes m n))
+    (format_of formats input) (format_of formats output)
 order_of_design formats (compare first second threads) =
-    compare_if_known (compare_order first second threads) (format_of formats first)
-    (format_of formats second)
+    if_both_known (λ m n. comparing (compare_order first second threads m n))
+    (format_of formats first) (format_of formats second)
 order_of_design formats (list file) =
     option_map (λ m. listing (threads_order file m)) (format_of formats file)
 order_of_design formats palette = Some (telling palette_report)
 order_of_design formats help = Some (telling design_usage_text)
-order_of_design formats version = Some (telling version_line)
+order_of_design formats version = Some (telling (version_line design_program_name))
 
 -- The order of parsed arguments.
 abbrev pub order_of_parsed : List Meaning → Result RequestedDesign (Option MistakenWord)
@@ -69,6 +77,8 @@ first_format_mistake first second (Some m) n = format_mistake second n
 abbrev pub mistake_of_design : List Meaning → RequestedDesign → Option MistakenWord
 mistake_of_design formats (look file limits) = format_mistake file (format_of formats file)
 mistake_of_design formats (pass file limits) = format_mistake file (format_of formats file)
+mistake_of_design formats (edit input output changes) =
+    first_format_mistake input output (format_of formats input) (format_of formats output)
 mistake_of_design formats (compare first second threads) =
     first_format_mistake first second (format_of formats first) (format_of formats second)
 mistake_of_design formats (list file) = format_mistake file (format_of formats file)
@@ -90,19 +100,25 @@ design_mistake formats words = mistake_of_parsed formats (parsed_design_words wo
 abbrev pub design_plan_of : DesignOrder → Plan
 design_plan_of (looking order) = design_look_plan order
 design_plan_of (passing order) = pass_plan order
+design_plan_of (editing order) = design_edit_plan order
 design_plan_of (comparing order) = compare_plan order
 design_plan_of (listing order) = threads_plan order
 design_plan_of (telling text) = accepts (λ product. product ≡ report_product text)
 
--- The names of the files that an order writes: none.
+-- The names of the files that an order writes.
 abbrev pub design_outputs_of : DesignOrder → List (List ℕ)
-design_outputs_of order = []
+design_outputs_of (looking order) = []
+design_outputs_of (passing order) = []
+design_outputs_of (editing order) = order.output ∷ []
+design_outputs_of (comparing order) = []
+design_outputs_of (listing order) = []
+design_outputs_of (telling text) = []
 
 -- The program, with the usage text after a mistake in the arguments, if there is one.
 abbrev pub stitch_design_after : Option MistakenWord → Program DesignOrder
 stitch_design_after mistake = record {
   name = design_program_name;
-  usage = usage_after mistake;
+  usage = usage_with design_program_name design_usage_text mistake;
   plan = design_plan_of;
   outputs = design_outputs_of;
 }

@@ -1,9 +1,12 @@
 -- Definitions of a lower crate that public clauses cite.
+pub use Rattle.companion_words.specs.MistakenWords
+pub use Rattle.companion_words.specs.UsageTexts
 pub use Rattle.program_shell.specs.ProgramRuns
 pub use Rattle.program_shell.specs.RunViews
 pub mod ThreadNames
 pub mod Mistakes
 pub mod LimitWords
+pub mod EditRequests
 pub mod Requests
 pub mod Usage
 pub mod PlaceTexts
@@ -13,5 +16,7 @@ pub mod DifferenceTexts
 pub mod ReviewOrders
 pub mod ThreadOrders
 pub mod CompareOrders
+pub mod DesignOutputs
+pub mod EditOrders
 -- Read this one first: the commands, their plans, and the program.
 pub mod Commands

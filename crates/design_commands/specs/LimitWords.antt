@@ -8,7 +8,8 @@ use Rattle.design_commands.specs.declared.limit_words.LimitKey.{LimitKey}
 use Rattle.design_commands.specs.declared.limit_words.LimitKey.TheVariants as key
 use Rattle.design_commands.specs.declared.limit_words.TheConstants.{MAX_LIMIT}
 use Rattle.design_commands.specs.declared.mistake.Misfit.TheVariants as misfit
-use Rattle.design_commands.specs.Mistakes.{MistakenWord, mistake_at}
+use Rattle.companion_words.specs.MistakenWords.{MistakenWord, then_with}
+use Rattle.design_commands.specs.Mistakes.{mistake_at}
 use Rattle.text_parts.specs.Parts.{split_at_byte}
 
 -- The limits where no argument gives another: stitches below 0.3 mm and above 7 mm, floats above
@@ -57,14 +58,8 @@ limits_by_parts limits word None = Err (mistake_at word misfit.NotALimit)
 abbrev pub limits_with : ReviewLimits → List ℕ → Result ReviewLimits MistakenWord
 limits_with limits word = limits_by_parts limits word (split_at_byte equals_sign word)
 
--- What follows from limits, if there are any.
-abbrev pub if_limits : {V : Type 0} → Result ReviewLimits MistakenWord
-    → (ReviewLimits → Result V MistakenWord) → Result V MistakenWord
-if_limits (Ok limits) next = next limits
-if_limits (Err mistake) next = Err mistake
-
 -- The limits with arguments in order. The first mistake determines the result.
 abbrev pub parsed_limits : ReviewLimits → List (List ℕ) → Result ReviewLimits MistakenWord
 parsed_limits limits [] = Ok limits
 parsed_limits limits (word ∷ rest) =
-    if_limits (limits_with limits word) (λ next. parsed_limits next rest)
+    then_with (limits_with limits word) (λ next. parsed_limits next rest)

@@ -1,5 +1,7 @@
 -- The first argument that isn't understood, and what is said of it.
 use Rattle.std.specs.Prelude.{ℕ, List, codes}
+use Rattle.companion_words.specs.MistakenWords.{MistakenWord, mistaken}
+use Rattle.edited_designs.specs.EditMistakes.{edit_mistake_text}
 use Rattle.design_commands.specs.declared.mistake.Misfit.{Misfit}
 use Rattle.design_commands.specs.declared.mistake.Misfit.TheVariants as misfit
 use Rattle.design_commands.specs.declared.mistake.Mistake.{Mistake}
@@ -12,17 +14,15 @@ misfit_text misfit.NotAFileName = codes "not a file name"
 misfit_text misfit.NoFormat = codes "no format has this ending"
 misfit_text misfit.NotALimit = codes "not a limit"
 misfit_text misfit.LimitRange = codes "from 0 to 1000"
+misfit_text misfit.IsInput = codes "is the input"
+misfit_text misfit.NoEdit = codes "needs an edit"
+misfit_text (misfit.Edit why) = edit_mistake_text why
 misfit_text misfit.NotUnderstood = codes "not understood"
-
--- An argument that isn't understood, as bytes, and why.
-pub record MistakenWord : Type 0 where
-  pub word : List ℕ
-  pub why : Misfit
-
--- A mistake of the program, with its argument as bytes.
-abbrev pub mistaken_word : Mistake → MistakenWord
-mistaken_word mistake = record { word = mistake.word.now; why = mistake.why }
 
 -- A mistake by its argument and its reason.
 abbrev pub mistake_at : List ℕ → Misfit → MistakenWord
-mistake_at word why = record { word = word; why = why }
+mistake_at word why = mistaken word (misfit_text why)
+
+-- A mistake of the program, with its texts as bytes.
+abbrev pub mistaken_word : Mistake → MistakenWord
+mistaken_word mistake = mistake_at mistake.word.now mistake.why

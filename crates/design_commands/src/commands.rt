@@ -1,22 +1,29 @@
-ghost use Rattle.design_commands.specs.Commands.{compare_if_known, first_format_mistake, format_mistake, looking, listing, mistake_of_design, order_of_design, passing, stitch_design_after, telling};
+ghost use Rattle.design_commands.specs.Commands.{comparing, editing, first_format_mistake, format_mistake, if_both_known, looking, listing, mistake_of_design, order_of_design, passing, stitch_design_after, telling};
 ghost use Rattle.design_commands.specs.CompareOrders.{compare_order};
-ghost use Rattle.design_commands.specs.Mistakes.{MistakenWord, mistaken_word};
+ghost use Rattle.command_words.specs.ValidNames.{AreFileNames};
+ghost use Rattle.companion_words.specs.MistakenWords.{MistakenWord};
+ghost use Rattle.design_commands.specs.EditOrders.{design_edit_order};
+ghost use Rattle.design_commands.specs.Mistakes.{mistaken_word};
 ghost use Rattle.design_commands.specs.Requests.{HasDesignNames, requested_design};
+ghost use Rattle.edited_designs.specs.EditArguments.{changes_of, parsed_changes};
 ghost use Rattle.design_commands.specs.ReviewOrders.{review_order};
 ghost use Rattle.design_commands.specs.ThreadOrders.{threads_order};
 ghost use Rattle.format_traits.specs.Endings.{format_of};
 ghost use Rattle.outside_io.specs.Files.{IsFileName};
 ghost use Rattle.program_shell.specs.StepOutcomes.{RunsRequest};
-ghost use Rattle.std.specs.Prelude.{◌≡◌, Option as OptionValue, Some, map, option_map};
+ghost use Rattle.std.specs.Prelude.{◌≡◌, Option as OptionValue, IsSome, Some, map, option_map, string_bytes};
 
 use crate::comparing::{Compared, compare};
+use crate::editing::edit_file;
 use crate::listing::list;
 use crate::looking::look;
 use crate::mistake::{Misfit, Mistake};
 use crate::passing::pass;
 use crate::requests::DesignRequest;
 use crate::thread_texts::describe_palette;
-use crate::usage::{usage, version};
+use crate::usage::{NAME, usage};
+use command_words::FileNames;
+use companion_words::version_text;
 use design_review::ReviewLimits;
 use format_traits::{Format, find};
 use outside_io::Store;
@@ -38,6 +45,7 @@ pub(crate) fn make_requested<'a, S: Store>(
     match requested {
         DesignRequest::Look { file, limits } => make_look(alloc, file, limits, formats, store),
         DesignRequest::Pass { file, limits } => make_pass(alloc, file, limits, formats, store),
+        DesignRequest::Edit { names, edits } => make_edit(alloc, names, edits, formats, store),
         DesignRequest::Compare {
             first,
             second,
@@ -53,7 +61,7 @@ pub(crate) fn make_requested<'a, S: Store>(
             Ok(only_report(alloc, report))
         }
         DesignRequest::Version => {
-            let report = bytes_of(alloc, version())?;
+            let report = bytes_of(alloc, version_text(NAME).as_slice())?;
             Ok(only_report(alloc, report))
         }
     }
@@ -112,6 +120,31 @@ fn make_list<'a, S: Store>(
     }
 }
 
+fn make_edit<'a, S: Store>(
+    alloc: Global,
+    names: FileNames<'a>,
+    edits: &[String],
+    formats: &mut [Box<dyn Format>],
+    store: &mut S,
+) -> Made<'a>
+    requires names { AreFileNames names }
+    requires edits { IsSome (parsed_changes (map (λ word. string_bytes word) edits.now)) }
+    ensures { (mistake : OptionValue MistakenWord) → RunsRequest (stitch_design_after mistake)
+        (if_both_known (λ m n. editing (design_edit_order names.entry.input.now names.entry.output.now
+        (changes_of (map (λ word. string_bytes word) edits.now)) m n))
+        (format_of (map (λ f. meaning f) formats.old) names.entry.input.now)
+        (format_of (map (λ f. meaning f) formats.old) names.entry.output.now))
+        (S.view store.old) (S.view store.new) result }
+{
+    let Some(source) = find(formats, names.input) else {
+        return Err(Failure::BadArguments);
+    };
+    let Some(target) = find(formats, names.output) else {
+        return Err(Failure::BadArguments);
+    };
+    edit_file(alloc, names, edits, formats, source, target, store)
+}
+
 fn make_comparison<'a, S: Store>(
     alloc: Global,
     first: &'a str,
@@ -123,7 +156,7 @@ fn make_comparison<'a, S: Store>(
     requires first { IsFileName first.now }
     requires second { IsFileName second.now }
     ensures { (mistake : OptionValue MistakenWord) → RunsRequest (stitch_design_after mistake)
-        (compare_if_known (compare_order first.now second.now threads)
+        (if_both_known (λ m n. comparing (compare_order first.now second.now threads m n))
         (format_of (map (λ f. meaning f) formats.old) first.now)
         (format_of (map (λ f. meaning f) formats.old) second.now)) (S.view store.old) (S.view store.new) result }
 {
@@ -155,6 +188,7 @@ pub(crate) fn unknown_format<'a>(
         DesignRequest::Look { file, .. } => unknown(file, formats),
         DesignRequest::Pass { file, .. } => unknown(file, formats),
         DesignRequest::Threads { file } => unknown(file, formats),
+        DesignRequest::Edit { names, .. } => first_unknown(names.input, names.output, formats),
         DesignRequest::Compare { first, second, .. } => first_unknown(first, second, formats),
         DesignRequest::Palette | DesignRequest::Help | DesignRequest::Version => None,
     }

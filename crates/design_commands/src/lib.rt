@@ -3,8 +3,11 @@
 
 mod commands;
 mod comparing;
+mod design_output;
 mod design_run;
 mod difference_texts;
+mod edit_refusals;
+mod editing;
 mod limit_words;
 mod listing;
 mod look_texts;

@@ -1,12 +1,11 @@
+ghost use Rattle.companion_words.specs.declared.usage_text.TheConstants.{MAX_WHY};
 ghost use Rattle.design_commands.specs.Mistakes.{misfit_text};
-ghost use Rattle.design_commands.specs.declared.mistake.TheConstants.{MAX_MISFIT};
 ghost use Rattle.std.specs.Prelude.{◌≡◌, ◌≤◌, length};
 
-/// The greatest length of what is said of a word, in bytes.
-pub const MAX_MISFIT: usize = 64;
+use edited_designs::EditMistake;
 
 /// Why an argument isn't understood.
-#[derive(Clone, Copy, Debug, PartialEq)]
+#[derive(Clone, Copy)]
 pub enum Misfit {
     /// The program has no such command.
     NotACommand,
@@ -20,6 +19,12 @@ pub enum Misfit {
     NotALimit,
     /// The number of a limit is none, or out of its range.
     LimitRange,
+    /// The file that is written has the name of the one that is read.
+    IsInput,
+    /// An edit is missing after the argument.
+    NoEdit,
+    /// The argument is no edit of a design.
+    Edit(EditMistake),
     /// The command takes no such argument.
     NotUnderstood,
 }
@@ -28,7 +33,7 @@ impl Misfit {
     /// Returns what is said of the argument.
     pub fn text(self) -> &'static [u8]
         ensures value { result.now ≡ misfit_text self }
-        ensures short { length result.now ≤ MAX_MISFIT }
+        ensures short { length result.now ≤ MAX_WHY }
     {
         match self {
             Misfit::NotACommand => b"not a command",
@@ -37,6 +42,9 @@ impl Misfit {
             Misfit::NoFormat => b"no format has this ending",
             Misfit::NotALimit => b"not a limit",
             Misfit::LimitRange => b"from 0 to 1000",
+            Misfit::IsInput => b"is the input",
+            Misfit::NoEdit => b"needs an edit",
+            Misfit::Edit(why) => why.text(),
             Misfit::NotUnderstood => b"not understood",
         }
     }

@@ -1,5 +1,6 @@
 ghost use Rattle.design_commands.specs.Commands.{design_mistake, design_order, stitch_design_after};
-ghost use Rattle.design_commands.specs.Mistakes.{MistakenWord, mistaken_word};
+ghost use Rattle.companion_words.specs.MistakenWords.{MistakenWord};
+ghost use Rattle.design_commands.specs.Mistakes.{mistaken_word};
 ghost use Rattle.program_shell.specs.ProgramRuns.{RunEnds};
 ghost use Rattle.program_shell.specs.RunViews.{views_of};
 ghost use Rattle.program_shell.specs.StepOutcomes.{RunsRequest};
@@ -16,7 +17,7 @@ use program_shell::{Failure, Made, Status, finish};
 use std::alloc::Global;
 
 /// Runs the command that the arguments request, and returns its exit status. Reads the inputs from the store.
-/// If nothing is refused, prints the report to `out`. Otherwise prints one line, or the usage text, to `err`. Where an
+/// If nothing is refused, writes the output there, then prints the report to `out`. Otherwise prints one line, or the usage text, to `err`. Where an
 /// argument isn't understood, a line about the first precedes the usage text.
 pub fn run<S: Store, O: Sink, E: Sink>(
     alloc: Global,

@@ -94,6 +94,14 @@ pub const LISTS: &[(&str, &str)] = &[
         "stitch-list 1\nlabel []\nblock 37\nneedle -20 5\nneedle 10 5\ntrim\nblock 2\nneedle 0 0\nneedle 0 40\nblock 255\nneedle 7 7\nend\n",
     ),
     (
+        "shop.lst",
+        "stitch-list 1\nlabel []\nblock 5\nneedle 0 0\nneedle 30 0\nneedle 60 0\ntrim\nneedle 99 0\nfloat 160 0\nblock 7\nblock 9\nneedle 0 12\nneedle 0 14\nneedle 0 40\nend\n",
+    ),
+    (
+        "far.lst",
+        "stitch-list 1\nlabel []\nblock 5\nneedle 29900 0\nneedle 30000 10\nend\n",
+    ),
+    (
         "bad.lst",
         "stitch-list 1\nlabel []\nblock 5\nnedle 0 0\nend\n",
     ),

@@ -1,5 +1,5 @@
 //! Runs of commands of `stitch_design` over files in memory, by tables.
-use super::{compare_runs, place_runs, shop_files, usage_runs};
+use super::{compare_runs, edit_runs, place_runs, shop_files, usage_runs};
 use crate::old_files::old_pec;
 use design_commands::run_design;
 use outside_io::{MemSink, MemStore};
@@ -8,7 +8,7 @@ use std::process::Abort;
 use std::test::Fail;
 
 pub const USAGE: &str =
-    "usage: stitch_design look FILE [KEY=N...]\n       stitch_design pass FILE [KEY=N...]\n       stitch_design compare A B [--threads]\n       stitch_design threads [FILE]\n       stitch_design --help\n       stitch_design --version\n";
+    "usage: stitch_design look FILE [KEY=N...]\n       stitch_design pass FILE [KEY=N...]\n       stitch_design edit IN OUT EDIT...\n       stitch_design compare A B [--threads]\n       stitch_design threads [FILE]\n       stitch_design --help\n       stitch_design --version\n";
 
 /// A run: its arguments, separated by spaces; the calls that fail, from 1 on, of the store and of the puts on standard
 /// output and on standard error, 0 for none; its status, and what it prints on both, where the usage text follows status 2.
@@ -95,9 +95,38 @@ fn stocked(alloc: Global) -> Result<MemStore, Fail> {
 
 #[test]
 fn each_run_leaves_what_its_table_says(rt: HostRuntime) -> Result<(), Fail> {
-    let tables = [place_runs::RUNS, compare_runs::RUNS, usage_runs::RUNS];
+    let tables = [
+        place_runs::RUNS,
+        compare_runs::RUNS,
+        edit_runs::RUNS,
+        usage_runs::RUNS,
+    ];
     for runs in tables {
         play(&rt, rt.alloc(), runs)?;
+    }
+    Ok(())
+}
+
+#[test]
+fn each_edit_leaves_the_list_of_its_table(rt: HostRuntime) -> Result<(), Fail> {
+    for (edits, printed, content) in edit_runs::EDITS {
+        let mut store = stocked(rt.alloc())?;
+        store.prepare("out.lst", 1_000)?;
+        let mut out = MemSink::new(rt.alloc(), 100)?;
+        let mut err = MemSink::new(rt.alloc(), 1_000)?;
+        let mut given = Vec::new(rt.alloc());
+        for word in ["edit", "shop.lst", "out.lst"] {
+            given.push(String::from_str(rt.alloc(), word)?)?;
+        }
+        for word in edits.split(' ') {
+            given.push(String::from_str(rt.alloc(), word)?)?;
+        }
+        let ended = run_design(rt.alloc(), &given, &mut store, &mut out, &mut err)?;
+        assert_eq!(rt; err.taken(), b"".as_slice(), "{edits:?}");
+        assert_eq!(rt; out.taken(), printed.as_bytes(), "{edits:?}");
+        assert_eq!(rt; ended as u8, 0, "{edits:?}");
+        let left = store.file("out.lst").unwrap_or(b"");
+        assert_eq!(rt; left, content.as_bytes(), "{edits:?}");
     }
     Ok(())
 }

@@ -1,6 +1,7 @@
 use Rattle.std.proofs.Common.{◌∙◌, None, ap}
 use Rattle.design_commands.specs.Commands.{stitch_design_after}
-use Rattle.design_commands.specs.Usage.{usage_after}
+use Rattle.companion_words.specs.UsageTexts.{usage_with}
+use Rattle.design_commands.specs.Usage.{design_program_name, design_usage_text}
 use Rattle.program_shell.proofs.CallerLemmas.{can_finish}
 use Rattle.design_commands.proofs.CommandLemmas.{design_ends}
 use Rattle.design_commands.proofs.running.run.Goals as goal
@@ -10,4 +11,5 @@ finish-requires g c = can_finish (stitch_design_after None) _ _ _ _ (c.make_prod
 
 pub returns : goal.returns
 returns g c = design_ends _ _ _ _ _ _ _ _ _ c.make_product-made.ensures
-    (rw (c.as_slice.ensures.value ∙ c.usage_text-usage.ensures ∙ ap usage_after c.mistake_in.ensures) at c.finish.ensures)
+    (rw (c.as_slice.ensures.value ∙ c.usage_text-usage.ensures
+    ∙ ap (usage_with design_program_name design_usage_text) c.mistake_in.ensures) at c.finish.ensures)
