@@ -1,4 +1,3 @@
 mod FormatLemmas
 mod PictureLemmas
-mod WordLemmas
 mod WordFacts

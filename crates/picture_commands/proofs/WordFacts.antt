@@ -1,34 +1,54 @@
--- Worked values of requests, and of orders.
-use Rattle.std.proofs.Common.{◌≡◌, ℕ, List, true, false, [], ◌∷◌, Some, None, codes, map, replicate, refl}
+-- Worked values of requests, of mistakes, and of orders.
+use Rattle.std.proofs.Common.{◌≡◌, ℕ, List, true, false, [], ◌∷◌, Option, Some, None, Ok, Err, codes, map, replicate, refl}
+use Rattle.companion_words.specs.MistakenWords.{MistakenWord, mistaken}
 use Rattle.format_traits.specs.Meanings.{Meaning}
-use Rattle.picture_commands.specs.Orders.{picture_order, drawing, proving, showing}
-use Rattle.picture_commands.specs.Words.{has_svg_ending, request_words, side_word, picture, proof}
+use Rattle.picture_commands.specs.Orders.{drawing, picture_mistake, picture_order, proving, showing, telling}
+use Rattle.picture_commands.specs.Names.{has_svg_ending, side_word}
+use Rattle.picture_commands.specs.Words.{help, parsed_picture_words, picture, proof, version}
 
 -- A picture's name ends in `.svg`, in small letters.
 pub known_pictures : (map has_svg_ending (codes "a.svg" ∷ codes "a.SVG" ∷ codes "svg" ∷ codes "a.svg.pes" ∷ codes "a.svgz" ∷ [])
     ≡ true ∷ false ∷ false ∷ false ∷ false ∷ [])
     -- Two names request a picture, the input first; with two sides it has a hoop, the width first. Three names request a proof.
-    × (map request_words ((codes "a.pes" ∷ codes "b.svg" ∷ []) ∷
-    (codes "a.pes" ∷ codes "b.svg" ∷ codes "1" ∷ codes "20" ∷ []) ∷ (codes "a" ∷ codes "b" ∷ codes "c.svg" ∷ []) ∷ [])
-    ≡ Some (picture (record { input = codes "a.pes"; output = codes "b.svg"; hoop = None }))
-    ∷ Some (picture (record { input = codes "a.pes"; output = codes "b.svg"; hoop = Some (record { width = 1; height = 20 }) }))
-    ∷ Some (proof (record { drawing = codes "a"; cert = codes "b"; output = codes "c.svg" })) ∷ [])
-    -- No other number of arguments, no empty argument, no other ending and no repeated name requests a picture.
-    × (map request_words (
-    [] ∷ (codes "a.pes" ∷ []) ∷ (codes "a.pes" ∷ codes "b.svg" ∷ codes "9" ∷ []) ∷ ([] ∷ codes "b.svg" ∷ [])
-    ∷ (codes "a.pes" ∷ [] ∷ []) ∷ (codes "a.svg" ∷ codes "b.pes" ∷ []) ∷ (codes "b.svg" ∷ codes "b.svg" ∷ [])
-    ∷ (codes "a.pes" ∷ codes "b.svg" ∷ codes "9" ∷ codes "0" ∷ [])
-    ∷ (codes "a.pes" ∷ codes "b.svg" ∷ codes "9" ∷ codes "9" ∷ codes "9" ∷ []) ∷ [])
-    ≡ replicate 9 None)
-    -- The picture of a proof differs from the drawing and from the certificate, and each of its names is a file name.
-    × (map request_words (
-    (codes "c.svg" ∷ codes "b" ∷ codes "c.svg" ∷ []) ∷ (codes "a" ∷ codes "c.svg" ∷ codes "c.svg" ∷ [])
-    ∷ ([] ∷ codes "b" ∷ codes "c.svg" ∷ []) ∷ (codes "a" ∷ [] ∷ codes "c.svg" ∷ []) ∷ (codes "a" ∷ codes "b" ∷ codes "c" ∷ []) ∷ [])
-    ≡ replicate 5 None)
+    × (map parsed_picture_words ((codes "a.pes" ∷ codes "b.svg" ∷ []) ∷
+    (codes "a.pes" ∷ codes "b.svg" ∷ codes "1" ∷ codes "20" ∷ []) ∷ (codes "a" ∷ codes "b" ∷ codes "c.svg" ∷ [])
+    ∷ (codes "--help" ∷ []) ∷ (codes "--version" ∷ []) ∷ [] ∷ [])
+    ≡ Ok (picture (record { input = codes "a.pes"; output = codes "b.svg"; hoop = None }))
+    ∷ Ok (picture (record { input = codes "a.pes"; output = codes "b.svg"; hoop = Some (record { width = 1; height = 20 }) }))
+    ∷ Ok (proof (record { drawing = codes "a"; cert = codes "b"; output = codes "c.svg" })) ∷ Ok help ∷ Ok version ∷ Err None ∷ [])
     -- A side is a number from 1 to 100000.
     × (map side_word (codes "1" ∷ codes "100000" ∷ codes "0" ∷ codes "100001" ∷ codes "-5" ∷ codes "x" ∷ codes "9999999999" ∷ [])
     ≡ Some 1 ∷ Some 100000 ∷ None ∷ None ∷ None ∷ None ∷ None ∷ [])
-known_pictures = (refl, refl, refl, refl, refl)
+known_pictures = (refl, refl, refl)
+
+-- arguments of which one isn't understood, over no format
+abbrev IsMistaken : List (List ℕ) → (word why : List ℕ) → Type 0
+IsMistaken words word why = (picture_order [] words ≡ None) × (picture_mistake [] words ≡ Some (mistaken word why))
+
+-- The first argument that isn't understood is named, with what is wrong with it.
+pub known_names : IsMistaken (codes "a.pes" ∷ []) (codes "a.pes") (codes "needs the name of a picture")
+    × IsMistaken (codes "--hlp" ∷ []) (codes "--hlp") (codes "needs the name of a picture")
+    × IsMistaken ([] ∷ codes "b.svg" ∷ []) [] (codes "not a file name")
+    × IsMistaken (codes "a.pes" ∷ [] ∷ []) [] (codes "not a file name")
+    × IsMistaken (codes "a.svg" ∷ codes "b.pes" ∷ []) (codes "b.pes") (codes "needs the ending .svg")
+    × IsMistaken (codes "b.svg" ∷ codes "b.svg" ∷ []) (codes "b.svg") (codes "is an input")
+known_names = ((refl, refl), (refl, refl), (refl, refl), (refl, refl), (refl, refl), (refl, refl))
+
+-- Those of a proof.
+pub known_proof_names : IsMistaken (codes "c.svg" ∷ codes "b" ∷ codes "c.svg" ∷ []) (codes "c.svg") (codes "is an input")
+    × IsMistaken (codes "a" ∷ codes "c.svg" ∷ codes "c.svg" ∷ []) (codes "c.svg") (codes "is an input")
+    × IsMistaken ([] ∷ codes "b" ∷ codes "c" ∷ []) [] (codes "not a file name")
+    × IsMistaken (codes "a" ∷ [] ∷ codes "c" ∷ []) [] (codes "not a file name")
+    × IsMistaken (codes "a" ∷ codes "b" ∷ codes "c" ∷ []) (codes "c") (codes "needs the ending .svg")
+known_proof_names = ((refl, refl), (refl, refl), (refl, refl), (refl, refl), (refl, refl))
+
+-- Those of a hoop, which no drawing has.
+pub known_hoops : IsMistaken (codes "a.pes" ∷ codes "b.pes" ∷ codes "0" ∷ codes "0" ∷ []) (codes "b.pes") (codes "needs the ending .svg")
+    × IsMistaken (codes "a.pes" ∷ codes "b.svg" ∷ codes "0" ∷ codes "x" ∷ []) (codes "0") (codes "from 1 to 100000")
+    × IsMistaken (codes "a.pes" ∷ codes "b.svg" ∷ codes "9" ∷ codes "x" ∷ []) (codes "x") (codes "from 1 to 100000")
+    × IsMistaken (codes "a.pes" ∷ codes "b.svg" ∷ codes "9" ∷ codes "9" ∷ codes "8" ∷ codes "7" ∷ []) (codes "8") (codes "not understood")
+    × IsMistaken (codes "a.rw" ∷ codes "b.svg" ∷ codes "9" ∷ codes "9" ∷ []) (codes "a.rw") (codes "no format has this ending")
+known_hoops = ((refl, refl), (refl, refl), (refl, refl), (refl, refl), (refl, refl))
 
 -- a format with another ending
 abbrev ending_as : Meaning → List ℕ → Meaning
@@ -37,9 +57,15 @@ ending_as format ending = record format { ending = ending }
 -- The format is that of the input's ending, and a file of no format is a drawing, which has no hoop. A proof needs no format.
 pub known_orders : (m : Meaning) → map (picture_order (ending_as m (codes "dst") ∷ ending_as m (codes "exp") ∷ []))
     ((codes "a.exp" ∷ codes "b.svg" ∷ []) ∷ (codes "a.rw" ∷ codes "b.svg" ∷ [])
-    ∷ (codes "a.rw" ∷ codes "b.svg" ∷ codes "1" ∷ codes "20" ∷ [])
     ∷ (codes "a" ∷ codes "b" ∷ codes "c.svg" ∷ []) ∷ [])
     ≡ Some (showing (record { format = ending_as m (codes "exp"); input = codes "a.exp"; output = codes "b.svg"; hoop = None }))
-    ∷ Some (drawing (record { drawing = codes "a.rw"; output = codes "b.svg" })) ∷ None
+    ∷ Some (drawing (record { drawing = codes "a.rw"; output = codes "b.svg" }))
     ∷ Some (proving (record { drawing = codes "a"; cert = codes "b"; output = codes "c.svg" })) ∷ []
 known_orders m = refl
+
+-- An order has no mistake.
+pub known_right : (m : Meaning) → map (picture_mistake (ending_as m (codes "dst") ∷ []))
+    ((codes "a.dst" ∷ codes "b.svg" ∷ codes "1" ∷ codes "20" ∷ []) ∷ (codes "a.rw" ∷ codes "b.svg" ∷ [])
+    ∷ (codes "a" ∷ codes "b" ∷ codes "c.svg" ∷ []) ∷ (codes "--help" ∷ []) ∷ [] ∷ [])
+    ≡ replicate 5 None
+known_right m = refl

@@ -1,6 +1,12 @@
+-- Definitions of a lower crate that public clauses cite.
+pub use Rattle.companion_words.specs.MistakenWords
+pub use Rattle.companion_words.specs.UsageTexts
 -- Read this one first: the orders of the program.
 pub mod Orders
 pub mod Pictures
 pub mod DrawnPictures
 pub mod Proofs
+pub mod Names
 pub mod Words
+pub mod Mistakes
+pub mod Usage

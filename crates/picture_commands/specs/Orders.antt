@@ -1,21 +1,27 @@
 -- The orders of stitch_picture, their plans, and the program.
-use Rattle.std.specs.Prelude.{ℕ, List, [], ◌∷◌, ◌++◌, Option, Some, None, codes}
-use Rattle.design_model.specs.TextLines.{newline}
+use Rattle.std.specs.Prelude.{◌≡◌, ℕ, List, [], ◌∷◌, Option, Some, None, Result, Ok, Err}
+use Rattle.companion_words.specs.MistakenWords.{MistakenWord}
+use Rattle.companion_words.specs.UsageTexts.{usage_with, version_line}
 use Rattle.design_picture.specs.declared.hoop.Hoop.{Hoop}
 use Rattle.format_traits.specs.Endings.{format_of}
 use Rattle.format_traits.specs.Meanings.{Meaning}
-use Rattle.program_shell.specs.Plans.{Plan}
+use Rattle.program_shell.specs.Plans.{Plan, accepts}
+use Rattle.program_shell.specs.Products.{report_product}
 use Rattle.program_shell.specs.Programs.{Program}
+use Rattle.picture_commands.specs.declared.mistake.Misfit.TheVariants as misfit
 use Rattle.picture_commands.specs.DrawnPictures.{DrawnOrder, drawn_plan}
+use Rattle.picture_commands.specs.Mistakes.{mistake_at}
 use Rattle.picture_commands.specs.Pictures.{DesignPictureOrder, design_picture_plan}
 use Rattle.picture_commands.specs.Proofs.{proof_plan}
-use Rattle.picture_commands.specs.Words.{ProofOrder, RequestedFile, RequestedPicture, request_words, picture, proof}
+use Rattle.picture_commands.specs.Usage.{picture_program_name, picture_usage}
+use Rattle.picture_commands.specs.Words.{ProofOrder, RequestedFile, RequestedPicture, help, parsed_picture_words, picture, proof, version}
 
--- An order, with a case for each kind of picture.
+-- An order, with a case for each kind of picture. The last prints a text that depends on no file.
 pub data PictureOrder : Type 0 where
   showing : DesignPictureOrder → PictureOrder
   drawing : DrawnOrder → PictureOrder
   proving : ProofOrder → PictureOrder
+  telling : (text : List ℕ) → PictureOrder
 
 -- The order for the picture of a requested file of a format.
 abbrev pub order_made : RequestedFile → Meaning → DesignPictureOrder
@@ -41,40 +47,66 @@ abbrev pub order_with : RequestedFile → Option Meaning → Option PictureOrder
 order_with file None = order_without_format file file.hoop
 order_with file (Some m) = Some (showing (order_made file m))
 
--- The order of an optional request.
-abbrev pub order_if_requested : List Meaning → Option RequestedPicture → Option PictureOrder
-order_if_requested formats None = None
-order_if_requested formats (Some (picture file)) =
-    order_with file (format_of formats file.input)
-order_if_requested formats (Some (proof order)) = Some (proving order)
+-- The order of a request, if there is one.
+abbrev pub order_of_picture : List Meaning → RequestedPicture → Option PictureOrder
+order_of_picture formats (picture file) = order_with file (format_of formats file.input)
+order_of_picture formats (proof order) = Some (proving order)
+order_of_picture formats help = Some (telling picture_usage)
+order_of_picture formats version = Some (telling (version_line picture_program_name))
+
+-- The order of parsed arguments.
+abbrev pub order_of_parsed : List Meaning → Result RequestedPicture (Option MistakenWord)
+    → Option PictureOrder
+order_of_parsed formats (Ok requested) = order_of_picture formats requested
+order_of_parsed formats (Err mistake) = None
 
 -- The order that the arguments request, or none.
 abbrev pub picture_order : List Meaning → List (List ℕ) → Option PictureOrder
-picture_order formats words = order_if_requested formats (request_words words)
+picture_order formats words = order_of_parsed formats (parsed_picture_words words)
+
+-- The mistake of a file in a hoop, if its format isn't known: a drawing has no hoop.
+abbrev pub hoop_mistake : RequestedFile → Option Hoop → Option Meaning → Option MistakenWord
+hoop_mistake file (Some hoop) None = Some (mistake_at file.input misfit.NoFormat)
+hoop_mistake file (Some hoop) (Some m) = None
+hoop_mistake file None m = None
+
+-- The mistake of a request, if it has one.
+abbrev pub mistake_of_picture : List Meaning → RequestedPicture → Option MistakenWord
+mistake_of_picture formats (picture file) =
+    hoop_mistake file file.hoop (format_of formats file.input)
+mistake_of_picture formats (proof order) = None
+mistake_of_picture formats help = None
+mistake_of_picture formats version = None
+
+-- The mistake of parsed arguments.
+abbrev pub mistake_of_parsed : List Meaning → Result RequestedPicture (Option MistakenWord)
+    → Option MistakenWord
+mistake_of_parsed formats (Ok requested) = mistake_of_picture formats requested
+mistake_of_parsed formats (Err mistake) = mistake
+
+-- The first argument that isn't understood, if there is one.
+abbrev pub picture_mistake : List Meaning → List (List ℕ) → Option MistakenWord
+picture_mistake formats words = mistake_of_parsed formats (parsed_picture_words words)
 
 -- The plan of an order.
 abbrev pub picture_plan : PictureOrder → Plan
 picture_plan (showing order) = design_picture_plan order
 picture_plan (drawing order) = drawn_plan order
 picture_plan (proving order) = proof_plan order
+picture_plan (telling text) = accepts (λ product. product ≡ report_product text)
 
 -- The names of the files that an order writes.
 abbrev pub picture_outputs : PictureOrder → List (List ℕ)
 picture_outputs (showing order) = order.output ∷ []
 picture_outputs (drawing order) = order.output ∷ []
 picture_outputs (proving order) = order.output ∷ []
+picture_outputs (telling text) = []
 
--- The usage text.
-abbrev pub picture_usage : List ℕ
-picture_usage = codes "usage: stitch_picture FILE OUT.svg [WIDTH HEIGHT]" ++ (newline
-    ++ (codes "       stitch_picture DRAWING OUT.svg" ++ (newline
-    ++ (codes "       stitch_picture DRAWING CERT OUT.svg" ++ newline))))
-
--- The program.
-abbrev pub picture_program : Program PictureOrder
-picture_program = record {
-  name = codes "stitch_picture";
-  usage = picture_usage;
+-- The program, with the usage text after a mistake in the arguments, if there is one.
+abbrev pub picture_program_after : Option MistakenWord → Program PictureOrder
+picture_program_after mistake = record {
+  name = picture_program_name;
+  usage = usage_with picture_program_name picture_usage mistake;
   plan = picture_plan;
   outputs = picture_outputs;
 }

@@ -1,19 +1,17 @@
 -- What the arguments of stitch_picture request: the picture of a file, with the two sides of a hoop
--- or none, or the picture of a proof.
-use Rattle.std.specs.Prelude.{ℕ, ◌-◌, Bool, ◌&&◌, not, List, [], ◌∷◌, Option, Some, None, bytes_eq, codes, drop, length, if◌then◌else◌}
-use Rattle.command_words.specs.Arguments.{natural_within}
-use Rattle.design_model.specs.WholeNumbers.{parsed_whole}
+-- or none, the picture of a proof, the usage text or the version; or the first argument that isn't
+-- understood.
+use Rattle.std.specs.Prelude.{ℕ, List, [], ◌∷◌, Option, Some, None, Result, Ok, Err, bytes_eq, codes, if◌then◌else◌}
+use Rattle.companion_words.specs.MistakenWords.{MistakenWord, then_with, with_some_mistake}
 use Rattle.design_picture.specs.declared.hoop.Hoop.{Hoop}
-use Rattle.outside_io.specs.Files.{IsFileName, is_file_name}
+use Rattle.outside_io.specs.Files.{IsFileName}
+use Rattle.picture_commands.specs.declared.mistake.Misfit.TheVariants as misfit
 use Rattle.picture_commands.specs.declared.words.FileNames.{FileNames}
 use Rattle.picture_commands.specs.declared.words.PictureRequest.{PictureRequest}
 use Rattle.picture_commands.specs.declared.words.PictureRequest.TheVariants as request
 use Rattle.picture_commands.specs.declared.words.ProofNames.{ProofNames}
-use Rattle.picture_commands.specs.declared.words.TheConstants.{MAX_HOOP_SIDE}
-
--- The test whether a name has the ending of a picture.
-abbrev pub has_svg_ending : List ℕ → Bool
-has_svg_ending word = bytes_eq (drop (length word - 4) word) (codes ".svg")
+use Rattle.picture_commands.specs.Mistakes.{mistake_at}
+use Rattle.picture_commands.specs.Names.{name_or_mistake, picture_or_mistake, side_if, side_word, unless_input}
 
 -- A file whose picture is requested: its name, the name of the picture, and the hoop or none.
 pub record RequestedFile : Type 0 where
@@ -27,10 +25,12 @@ pub record ProofOrder : Type 0 where
   pub cert : List ℕ
   pub output : List ℕ
 
--- A request: the picture of a file, or of a proof.
+-- A request: the picture of a file or of a proof, the usage text, or the version.
 pub data RequestedPicture : Type 0 where
   picture : RequestedFile → RequestedPicture
   proof : ProofOrder → RequestedPicture
+  help : RequestedPicture
+  version : RequestedPicture
 
 -- The names for the picture of a file, as bytes.
 abbrev pub requested_file : FileNames → RequestedFile
@@ -52,6 +52,8 @@ proof_order names = record {
 abbrev pub picture_request : PictureRequest → RequestedPicture
 picture_request (request.File names) = picture (requested_file names)
 picture_request (request.Proof names) = proof (proof_order names)
+picture_request request.Help = help
+picture_request request.Version = version
 
 -- The names for the picture of a file are file names.
 pub record ArePictureNames (names : FileNames) : Type 0 where
@@ -68,42 +70,52 @@ pub record AreProofNames (names : ProofNames) : Type 0 where
 abbrev pub AreGoodNames : PictureRequest → Type 0
 AreGoodNames (request.File names) = ArePictureNames names
 AreGoodNames (request.Proof names) = AreProofNames names
+AreGoodNames request.Help = Unit {0}
+AreGoodNames request.Version = Unit {0}
 
--- The request of two names with a hoop or none, if both are file names, the second is that of a
--- picture, and they differ.
-abbrev pub request_of : List ℕ → List ℕ → Option Hoop → Option RequestedPicture
-request_of input output hoop =
-    if is_file_name input && is_file_name output && has_svg_ending output
-    && not (bytes_eq input output)
-    then Some (picture (record { input = input; output = output; hoop = hoop })) else None
+-- The file of two names, if both are file names, the second is that of a picture, and they differ.
+abbrev pub file_of_names : (input output : List ℕ) → Result RequestedFile MistakenWord
+file_of_names input output = then_with (name_or_mistake input) (λ source.
+    then_with (picture_or_mistake output) (λ picture. then_with (unless_input source picture)
+    (λ target. Ok (record { input = source; output = target; hoop = None }))))
+
+-- The request of two names.
+abbrev pub parsed_file : (input output : List ℕ) → Result RequestedPicture MistakenWord
+parsed_file input output = then_with (file_of_names input output) (λ file. Ok (picture file))
 
 -- The request of three names, if all are file names, the third is that of a picture, and it differs
 -- from the other two.
-abbrev pub proof_request : List ℕ → List ℕ → List ℕ → Option RequestedPicture
-proof_request drawing cert output =
-    if is_file_name drawing && is_file_name cert && is_file_name output && has_svg_ending output
-    && not (bytes_eq drawing output) && not (bytes_eq cert output)
-    then Some (proof (record { drawing = drawing; cert = cert; output = output })) else None
+abbrev pub parsed_proof : (drawing cert output : List ℕ) → Result RequestedPicture MistakenWord
+parsed_proof drawing cert output = then_with (name_or_mistake drawing) (λ first.
+    then_with (name_or_mistake cert) (λ second. then_with (picture_or_mistake output) (λ picture.
+    then_with (unless_input first picture) (λ apart. then_with (unless_input second apart)
+    (λ target. Ok (proof (record { drawing = first; cert = second; output = target })))))))
 
--- The side that an argument stands for, in tenths of a millimetre, from 1 to the greatest.
-abbrev pub side_word : List ℕ → Option ℕ
-side_word word = natural_within 1 MAX_HOOP_SIDE (parsed_whole word)
+-- The request of two names with the two sides of a hoop.
+abbrev pub parsed_in_hoop : (input output width height : List ℕ)
+    → Result RequestedPicture MistakenWord
+parsed_in_hoop input output width height = then_with (file_of_names input output) (λ file.
+    then_with (side_if width (side_word width)) (λ w. then_with (side_if height (side_word height))
+    (λ h. Ok (picture (record file { hoop = Some (record { width = w; height = h }) })))))
 
--- The hoop of two sides, if there are both.
-abbrev pub hoop_of_sides : Option ℕ → Option ℕ → Option Hoop
-hoop_of_sides (Some width) (Some height) = Some (record { width = width; height = height })
-hoop_of_sides (Some width) None = None
-hoop_of_sides None height = None
+-- The request of one argument.
+abbrev pub parsed_alone : List ℕ → Result RequestedPicture MistakenWord
+parsed_alone word =
+    if bytes_eq word (codes "--help") then Ok help
+    else (if bytes_eq word (codes "--version") then Ok version
+    else Err (mistake_at word misfit.NoPicture))
 
--- The request of two names with a hoop, if there is one.
-abbrev pub request_with : List ℕ → List ℕ → Option Hoop → Option RequestedPicture
-request_with input output (Some hoop) = request_of input output (Some hoop)
-request_with input output None = None
+-- The request of an argument and those after it.
+abbrev pub parsed_words : List ℕ → List (List ℕ) → Result RequestedPicture MistakenWord
+parsed_words word [] = parsed_alone word
+parsed_words input (output ∷ []) = parsed_file input output
+parsed_words drawing (cert ∷ output ∷ []) = parsed_proof drawing cert output
+parsed_words input (output ∷ width ∷ height ∷ []) = parsed_in_hoop input output width height
+parsed_words input (output ∷ width ∷ height ∷ more ∷ rest) =
+    Err (mistake_at more misfit.NotUnderstood)
 
--- The request of the arguments, or none.
-abbrev pub request_words : List (List ℕ) → Option RequestedPicture
-request_words (input ∷ output ∷ []) = request_of input output None
-request_words (drawing ∷ cert ∷ output ∷ []) = proof_request drawing cert output
-request_words (input ∷ output ∷ width ∷ height ∷ []) =
-    request_with input output (hoop_of_sides (side_word width) (side_word height))
-request_words _ = None
+-- The request of the arguments, or the first that isn't understood. Without arguments there is
+-- neither.
+abbrev pub parsed_picture_words : List (List ℕ) → Result RequestedPicture (Option MistakenWord)
+parsed_picture_words [] = Err None
+parsed_picture_words (word ∷ words) = with_some_mistake (parsed_words word words)

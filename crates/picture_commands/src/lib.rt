@@ -4,10 +4,14 @@
 
 mod drawing;
 mod drawn;
+mod mistake;
 mod picture_run;
 mod proving;
 mod running;
+mod usage;
 mod words;
 
+pub use mistake::{Misfit, Mistake};
 pub use picture_run::run_picture;
 pub use running::{PROGRAM, run};
+pub use words::{PictureRequest, request};

@@ -1,5 +1,5 @@
 ghost use Rattle.all_formats.specs.StitchFormats.{stitch_formats};
-ghost use Rattle.picture_commands.specs.Orders.{picture_order, picture_program};
+ghost use Rattle.picture_commands.specs.Orders.{picture_mistake, picture_order, picture_program_after};
 ghost use Rattle.program_shell.specs.ProgramRuns.{RunEnds};
 ghost use Rattle.program_shell.specs.RunViews.{views_of};
 ghost use Rattle.std.specs.Prelude.{◌≡◌, IfErr, IfOk, map, string_bytes};
@@ -20,7 +20,8 @@ pub fn run_picture<S: Store, O: Sink, E: Sink>(
     out: &mut O,
     err: &mut E,
 ) -> Result<Status, AllocError>
-    ensures ok { IfOk result (RunEnds picture_program
+    ensures ok { IfOk result (RunEnds
+        (picture_program_after (picture_mistake stitch_formats (map string_bytes words.now)))
         (picture_order stitch_formats (map string_bytes words.now))
         (views_of (S.view store.old) (O.view out.old) (E.view err.old))
         (views_of (S.view store.new) (O.view out.new) (E.view err.new))) }
@@ -42,7 +43,8 @@ fn run_over<S: Store, O: Sink, E: Sink>(
     err: &mut E,
 ) -> Status
     requires { map (λ f. meaning f) formats.old ≡ stitch_formats }
-    ensures { RunEnds picture_program (picture_order stitch_formats (map string_bytes words.now))
+    ensures { RunEnds (picture_program_after (picture_mistake stitch_formats (map string_bytes words.now)))
+        (picture_order stitch_formats (map string_bytes words.now))
         (views_of (S.view store.old) (O.view out.old) (E.view err.old))
         (views_of (S.view store.new) (O.view out.new) (E.view err.new)) result }
 {

@@ -1,6 +1,10 @@
-ghost use Rattle.picture_commands.specs.Words.{AreGoodNames, has_svg_ending, hoop_of_sides, picture_request, proof_request, request_of, request_words, side_word};
-ghost use Rattle.std.specs.Prelude.{◌≡◌, IfSome, map, option_map, string_bytes};
+ghost use Rattle.outside_io.specs.Files.{IsFileName};
+ghost use Rattle.picture_commands.specs.Mistakes.{mistaken_word};
+ghost use Rattle.picture_commands.specs.Names.{has_svg_ending, name_or_mistake, picture_or_mistake, side_if, side_word, unless_input};
+ghost use Rattle.picture_commands.specs.Words.{AreGoodNames, ArePictureNames, file_of_names, parsed_alone, parsed_file, parsed_in_hoop, parsed_picture_words, parsed_proof, parsed_words, picture_request, requested_file};
+ghost use Rattle.std.specs.Prelude.{◌≡◌, Err, IfErr, IfOk, None, Ok, map, option_map, string_bytes};
 
+use crate::mistake::{Misfit, Mistake};
 use command_words::parse_natural;
 use design_picture::Hoop;
 use outside_io::is_name;
@@ -31,73 +35,204 @@ pub enum PictureRequest<'a> {
     File(FileNames<'a>),
     /// The picture of a proof.
     Proof(ProofNames<'a>),
+    /// The usage text.
+    Help,
+    /// The name of the program, and its version.
+    Version,
 }
 
-/// Parses the arguments: two file names, and the two sides of a hoop or none; or three file names.
-pub(crate) fn request(words: &[String]) -> Option<PictureRequest<'_>>
-    ensures value { option_map picture_request result ≡ request_words (map string_bytes words.now) }
-    ensures names { IfSome result AreGoodNames }
+/// Parses the arguments: two file names, and the two sides of a hoop or none; three file names; or `--help` or `--version`
+/// alone. The error is the first that isn't understood, and `None` without arguments. Allocates nothing.
+pub fn request(words: &[String]) -> Result<PictureRequest<'_>, Option<Mistake<'_>>>
+    ensures ok { IfOk result (λ requested.
+        parsed_picture_words (map string_bytes words.now) ≡ Ok (picture_request requested)) }
+    ensures err { IfErr result (λ mistake.
+        parsed_picture_words (map string_bytes words.now) ≡ Err (option_map mistaken_word mistake)) }
+    ensures names { IfOk result AreGoodNames }
+{
+    let [word, rest @ ..] = words else {
+        return Err(None);
+    };
+    match request_after(word.as_str(), rest) {
+        Ok(requested) => Ok(requested),
+        Err(mistake) => Err(Some(mistake)),
+    }
+}
+
+fn request_after<'a>(word: &'a str, words: &'a [String]) -> Result<PictureRequest<'a>, Mistake<'a>>
+    ensures ok { IfOk result (λ requested.
+        parsed_words word.now (map string_bytes words.now) ≡ Ok (picture_request requested)) }
+    ensures err { IfErr result (λ mistake.
+        parsed_words word.now (map string_bytes words.now) ≡ Err (mistaken_word mistake)) }
+    ensures names { IfOk result AreGoodNames }
 {
     match words {
-        [input, output] => request_of_names(input.as_str(), output.as_str(), None),
-        [drawing, cert, output] => proof_of_names(drawing.as_str(), cert.as_str(), output.as_str()),
-        [input, output, width, height] => {
-            let hoop = hoop_in(width.as_bytes(), height.as_bytes())?;
-            request_of_names(input.as_str(), output.as_str(), Some(hoop))
+        [] => request_alone(word),
+        [output] => file_request(word, output.as_str()),
+        [cert, output] => proof_request(word, cert.as_str(), output.as_str()),
+        [output, width, height] => {
+            hoop_request(word, output.as_str(), width.as_str(), height.as_str())
         }
-        _ => None,
+        [_, _, _, more, ..] => Err(Mistake {
+            word: more.as_str(),
+            why: Misfit::NotUnderstood,
+        }),
     }
 }
 
-fn hoop_in(width: &[u8], height: &[u8]) -> Option<Hoop>
-    ensures { result ≡ hoop_of_sides (side_word width.now) (side_word height.now) }
+fn request_alone(word: &str) -> Result<PictureRequest<'_>, Mistake<'_>>
+    ensures ok { IfOk result (λ requested. parsed_alone word.now ≡ Ok (picture_request requested)) }
+    ensures err { IfErr result (λ mistake. parsed_alone word.now ≡ Err (mistaken_word mistake)) }
+    ensures names { IfOk result AreGoodNames }
 {
-    let width = parse_natural(1, MAX_HOOP_SIDE, width)?;
-    let height = parse_natural(1, MAX_HOOP_SIDE, height)?;
-    Some(Hoop { width, height })
+    match word {
+        word if word == "--help" => Ok(PictureRequest::Help),
+        word if word == "--version" => Ok(PictureRequest::Version),
+        _ => Err(Mistake {
+            word,
+            why: Misfit::NoPicture,
+        }),
+    }
 }
 
-fn request_of_names<'a>(
+fn file_request<'a>(input: &'a str, output: &'a str) -> Result<PictureRequest<'a>, Mistake<'a>>
+    ensures ok { IfOk result (λ requested.
+        parsed_file input.now output.now ≡ Ok (picture_request requested)) }
+    ensures err { IfErr result (λ mistake. parsed_file input.now output.now ≡ Err (mistaken_word mistake)) }
+    ensures names { IfOk result AreGoodNames }
+{
+    let names = file_names(input, output)?;
+    Ok(PictureRequest::File(names))
+}
+
+fn hoop_request<'a>(
     input: &'a str,
     output: &'a str,
-    hoop: Option<Hoop>,
-) -> Option<PictureRequest<'a>>
-    ensures value { option_map picture_request result ≡ request_of input.now output.now hoop }
-    ensures names { IfSome result AreGoodNames }
+    width: &'a str,
+    height: &'a str,
+) -> Result<PictureRequest<'a>, Mistake<'a>>
+    ensures ok { IfOk result (λ requested. parsed_in_hoop input.now output.now width.now height.now
+        ≡ Ok (picture_request requested)) }
+    ensures err { IfErr result (λ mistake. parsed_in_hoop input.now output.now width.now height.now
+        ≡ Err (mistaken_word mistake)) }
+    ensures names { IfOk result AreGoodNames }
 {
-    if is_name(input) && is_name(output) && is_svg(output) && input != output {
-        Some(PictureRequest::File(FileNames {
-            input,
-            output,
-            hoop,
-        }))
-    } else {
-        None
-    }
+    let FileNames {
+        input,
+        output,
+        hoop: _,
+    } = file_names(input, output)?;
+    let width = side_in(width)?;
+    let height = side_in(height)?;
+    let hoop = Some(Hoop { width, height });
+    Ok(PictureRequest::File(FileNames {
+        input,
+        output,
+        hoop,
+    }))
 }
 
-fn proof_of_names<'a>(
+fn proof_request<'a>(
     drawing: &'a str,
     cert: &'a str,
     output: &'a str,
-) -> Option<PictureRequest<'a>>
-    ensures value { option_map picture_request result ≡ proof_request drawing.now cert.now output.now }
-    ensures names { IfSome result AreGoodNames }
+) -> Result<PictureRequest<'a>, Mistake<'a>>
+    ensures ok { IfOk result (λ requested.
+        parsed_proof drawing.now cert.now output.now ≡ Ok (picture_request requested)) }
+    ensures err { IfErr result (λ mistake.
+        parsed_proof drawing.now cert.now output.now ≡ Err (mistaken_word mistake)) }
+    ensures names { IfOk result AreGoodNames }
 {
-    if is_name(drawing)
-        && is_name(cert)
-        && is_name(output)
-        && is_svg(output)
-        && drawing != output
-        && cert != output
-    {
-        Some(PictureRequest::Proof(ProofNames {
-            drawing,
-            cert,
-            output,
-        }))
+    let drawing = named(drawing)?;
+    let cert = named(cert)?;
+    let output = picture_named(output)?;
+    let output = apart(drawing, output)?;
+    let output = apart(cert, output)?;
+    Ok(PictureRequest::Proof(ProofNames {
+        drawing,
+        cert,
+        output,
+    }))
+}
+
+/// Returns the names of a file and of its picture, without a hoop.
+fn file_names<'a>(input: &'a str, output: &'a str) -> Result<FileNames<'a>, Mistake<'a>>
+    ensures ok { IfOk result (λ names. file_of_names input.now output.now ≡ Ok (requested_file names)) }
+    ensures err { IfErr result (λ mistake. file_of_names input.now output.now ≡ Err (mistaken_word mistake)) }
+    ensures names { IfOk result ArePictureNames }
+{
+    let input = named(input)?;
+    let output = picture_named(output)?;
+    let output = apart(input, output)?;
+    Ok(FileNames {
+        input,
+        output,
+        hoop: None,
+    })
+}
+
+/// Returns the side of a hoop that an argument stands for, in tenths of a millimetre.
+fn side_in(word: &str) -> Result<u32, Mistake<'_>>
+    ensures ok { IfOk result (λ side. side_if word.now (side_word word.now) ≡ Ok side) }
+    ensures err { IfErr result (λ mistake.
+        side_if word.now (side_word word.now) ≡ Err (mistaken_word mistake)) }
+{
+    match parse_natural(1, MAX_HOOP_SIDE, word.as_bytes()) {
+        Some(side) => Ok(side),
+        None => Err(Mistake {
+            word,
+            why: Misfit::SideRange,
+        }),
+    }
+}
+
+/// Returns an argument that is a file name.
+fn named(word: &str) -> Result<&str, Mistake<'_>>
+    ensures ok { IfOk result (λ name. name_or_mistake word.now ≡ Ok name.now) }
+    ensures err { IfErr result (λ mistake. name_or_mistake word.now ≡ Err (mistaken_word mistake)) }
+    ensures name { IfOk result (λ name. IsFileName name.now) }
+{
+    if is_name(word) {
+        Ok(word)
     } else {
-        None
+        Err(Mistake {
+            word,
+            why: Misfit::NotAFileName,
+        })
+    }
+}
+
+/// Returns an argument that is the name of a picture.
+fn picture_named(word: &str) -> Result<&str, Mistake<'_>>
+    ensures ok { IfOk result (λ name. picture_or_mistake word.now ≡ Ok name.now) }
+    ensures err { IfErr result (λ mistake. picture_or_mistake word.now ≡ Err (mistaken_word mistake)) }
+    ensures name { IfOk result (λ name. IsFileName name.now) }
+{
+    let name = named(word)?;
+    if is_svg(name) {
+        Ok(name)
+    } else {
+        Err(Mistake {
+            word: name,
+            why: Misfit::NotAPicture,
+        })
+    }
+}
+
+/// Returns the name of a picture, if it differs from that of an input.
+fn apart<'a>(input: &str, output: &'a str) -> Result<&'a str, Mistake<'a>>
+    requires { IsFileName output.now }
+    ensures ok { IfOk result (λ name. unless_input input.now output.now ≡ Ok name.now) }
+    ensures err { IfErr result (λ mistake. unless_input input.now output.now ≡ Err (mistaken_word mistake)) }
+    ensures name { IfOk result (λ name. IsFileName name.now) }
+{
+    if input == output {
+        Err(Mistake {
+            word: output,
+            why: Misfit::IsInput,
+        })
+    } else {
+        Ok(output)
     }
 }
 

@@ -1,6 +1,6 @@
 //! Runs of `stitch_drawing edit` over files in memory.
 use super::table_runs::Run;
-use crate::{done, faulted, refused, unasked};
+use crate::{done, faulted, misused, refused};
 
 pub const FILES: &[(&str, &str)] = &[
     (
@@ -64,15 +64,25 @@ pub const RUNS: &[Run] = &[
         "stitch_drawing: pieces.rw: edit 1: not a junction\n"),
     refused!("edit pieces.rw out.rw start=40,0 start=80,0" =>
         "stitch_drawing: pieces.rw: edit 2: start or end repeated\n"),
-    unasked!("edit pieces.rw out.rw order=0,1"),
-    unasked!("edit pieces.rw out.rw order=1"),
-    unasked!("edit pieces.rw out.rw start=30001,0"),
-    unasked!("edit pieces.rw out.rw end=5"),
+    misused!("edit pieces.rw out.rw order=0,1" =>
+        "stitch_drawing: order=0,1: not an edit\n"),
+    misused!("edit pieces.rw out.rw order=1" =>
+        "stitch_drawing: order=1: not an edit\n"),
+    misused!("edit pieces.rw out.rw start=30001,0" =>
+        "stitch_drawing: start=30001,0: not an edit\n"),
+    misused!("edit pieces.rw out.rw end=5" =>
+        "stitch_drawing: end=5: not an edit\n"),
     faulted!("edit none.rw out.rw centre" => "stitch_drawing: cannot read none.rw\n"),
-    unasked!("edit out.rw out.rw centre"),
-    unasked!("edit ok.rw out.rw thread=1,2"),
-    unasked!("edit ok.rw out.rw step=0"),
-    unasked!("edit ok.rw out.rw step=2048"),
-    unasked!("edit ok.rw out.rw turn=4"),
-    unasked!("edit ok.rw out.rw"),
+    misused!("edit out.rw out.rw centre" =>
+        "stitch_drawing: out.rw: is the input\n"),
+    misused!("edit ok.rw out.rw thread=1,2" =>
+        "stitch_drawing: thread=1,2: not an edit\n"),
+    misused!("edit ok.rw out.rw step=0" =>
+        "stitch_drawing: step=0: not an edit\n"),
+    misused!("edit ok.rw out.rw step=2048" =>
+        "stitch_drawing: step=2048: not an edit\n"),
+    misused!("edit ok.rw out.rw turn=4" =>
+        "stitch_drawing: turn=4: not an edit\n"),
+    misused!("edit ok.rw out.rw" =>
+        "stitch_drawing: out.rw: needs an edit\n"),
 ];

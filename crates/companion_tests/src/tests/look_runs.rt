@@ -1,6 +1,6 @@
 //! Runs of `stitch_drawing look`, and of other commands that no other table has, over files in memory.
-use super::table_runs::Run;
-use crate::{done, faulted, refused, unasked};
+use super::table_runs::{Run, USAGE};
+use crate::{done, faulted, misused, refused};
 
 /// Two lines, one of which ends beside the other, and one that crosses.
 pub const FILES: &[(&str, &str)] = &[
@@ -48,18 +48,43 @@ pub const RUNS: &[Run] = &[
     faulted!("look bad.rw", [0, 0, 1] => ""),
     done!("look ok.rw 100" =>
         "block 1 piece 1 lines 3 junctions 4 odd 4 stitches 12 shortest 10 longest 10 short 0 thread 120 travel 0\nblock 1 line 1 at 0 0: loose end\nblock 1 line 1 at 80 0: loose end\nblock 1 line 2 at 40 40: loose end\npieces 1 places 3 thread 120 travel 0\n"),
-    unasked!("look ok.rw 101"),
-    unasked!("look ok.rw -1"),
-    unasked!("look "),
+    misused!("look ok.rw 101" =>
+        "stitch_drawing: 101: from 0 to 100\n"),
+    misused!("look ok.rw -1" =>
+        "stitch_drawing: -1: from 0 to 100\n"),
+    misused!("look " =>
+        "stitch_drawing: : not a file name\n"),
     done!("snap 2 loose.rw out.rw" => "moved 1 listed 1 pieces 4 to 2\n"),
     done!("snap 1 loose.rw out.rw" => "moved 0 listed 0 pieces 4 to 4\n"),
     refused!("snap 3 short.rw out.rw" =>
         "stitch_drawing: short.rw: block 2 line 2: would vanish\n"),
     done!("snap 2 ended.rw out.rw" => "moved 0 listed 0 pieces 1 to 1\n"),
     refused!("snap 2 bad.rw out.rw" => "stitch_drawing: bad.rw: line 3: too few points\n"),
-    unasked!("snap 101 loose.rw out.rw"),
-    unasked!("snap 2 loose.rw loose.rw"),
-    unasked!("snap 2 loose.rw"),
-    unasked!("look"),
-    unasked!(""),
+    misused!("snap 101 loose.rw out.rw" =>
+        "stitch_drawing: 101: from 0 to 100\n"),
+    misused!("snap 2 loose.rw loose.rw" =>
+        "stitch_drawing: loose.rw: is the input\n"),
+    misused!("snap 2 loose.rw" =>
+        "stitch_drawing: loose.rw: needs a file\n"),
+    misused!("look" =>
+        "stitch_drawing: look: needs a file\n"),
+    misused!("" =>
+        ""),
+    misused!("lok ok.rw" =>
+        "stitch_drawing: lok: not a command\n"),
+    misused!("look ok.rw 2 3" =>
+        "stitch_drawing: 3: not understood\n"),
+    misused!("snap" =>
+        "stitch_drawing: snap: needs a gap\n"),
+    misused!("snap 2" =>
+        "stitch_drawing: 2: needs a file\n"),
+    misused!("edit ok.rw out.rw centre strt=0,0 stp=3" =>
+        "stitch_drawing: strt=0,0: not an edit\n"),
+    misused!("--help x" =>
+        "stitch_drawing: x: not understood\n"),
+    misused!("--version x" =>
+        "stitch_drawing: x: not understood\n"),
+    done!("--help" => USAGE),
+    done!("--version" =>
+        "stitch_drawing 0.4.0\n"),
 ];

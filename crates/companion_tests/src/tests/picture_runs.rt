@@ -27,20 +27,51 @@ const LOOSE: &[u8] =
     b"redwork 3\nname loose\nstep 10\ncolor 5\nline 0 0 20 0\nline 20 0 40 0 40 10\ncolor 1\nline 0 20 18 20\nline 20 15 20 30\n";
 
 const TEXT_OF_USAGE: &str =
-    "usage: stitch_picture FILE OUT.svg [WIDTH HEIGHT]\n       stitch_picture DRAWING OUT.svg\n       stitch_picture DRAWING CERT OUT.svg\n";
+    "usage: stitch_picture FILE OUT.svg [WIDTH HEIGHT]\n       stitch_picture DRAWING OUT.svg\n       stitch_picture DRAWING CERT OUT.svg\n       stitch_picture --help\n       stitch_picture --version\n";
 
-/// Arguments, the status of their run, and what it prints on the standard error.
+/// Arguments, the status of their run, and what it prints on the standard error, where the usage text follows status 2.
 type PictureCase = (&'static [&'static str], u8, &'static str);
 
-const CASES: [PictureCase; 18] = [
+const CASES: [PictureCase; 21] = [
     (&["a.lst", "a.svg"], 0, ""),
     (&["a.lst", "a.svg", "700", "300"], 0, ""),
-    (&[], 2, TEXT_OF_USAGE),
-    (&["a.lst"], 2, TEXT_OF_USAGE),
-    (&["a.lst", "a.svg", "7"], 2, TEXT_OF_USAGE),
-    (&["a.lst", "a.svg", "0", "9"], 2, TEXT_OF_USAGE),
-    (&["a.rw", "a.svg", "7", "9"], 2, TEXT_OF_USAGE),
-    (&["a.lst", "a.lst"], 2, TEXT_OF_USAGE),
+    (&[], 2, ""),
+    (
+        &["a.lst"],
+        2,
+        "stitch_picture: a.lst: needs the name of a picture\n",
+    ),
+    (
+        &["a.lst", "a.svg", "7"],
+        2,
+        "stitch_picture: 7: needs the ending .svg\n",
+    ),
+    (
+        &["a.lst", "a.svg", "0", "9"],
+        2,
+        "stitch_picture: 0: from 1 to 100000\n",
+    ),
+    (
+        &["a.rw", "a.svg", "7", "9"],
+        2,
+        "stitch_picture: a.rw: no format has this ending\n",
+    ),
+    (
+        &["a.lst", "a.lst"],
+        2,
+        "stitch_picture: a.lst: needs the ending .svg\n",
+    ),
+    (
+        &["a.svg", "a.svg"],
+        2,
+        "stitch_picture: a.svg: is an input\n",
+    ),
+    (&["", "a.svg"], 2, "stitch_picture: : not a file name\n"),
+    (
+        &["a.lst", "a.svg", "7", "9", "x", "y"],
+        2,
+        "stitch_picture: x: not understood\n",
+    ),
     (
         &["bad.exp", "a.svg"],
         1,
@@ -127,9 +158,36 @@ fn each_run_prints_its_line_and_ends_with_its_status(rt: HostRuntime) -> Result<
         let mut out = MemSink::new(rt.alloc(), 100)?;
         let mut err = MemSink::new(rt.alloc(), 1_000)?;
         let found = answer(rt.alloc(), words, &mut store, &mut out, &mut err)?;
-        assert_eq!(rt; err.taken(), line.as_bytes(), "{words:?}");
+        let expected = with_usage(rt.alloc(), line, status)?;
+        assert_eq!(rt; err.taken(), expected.as_bytes(), "{words:?}");
         assert_eq!(rt; found as u8, status, "{words:?}");
         assert!(rt; out.taken().is_empty(), "{words:?}");
+    }
+    Ok(())
+}
+
+/// Returns what is on standard error: a line, and the usage text where the status says so.
+fn with_usage(alloc: Global, line: &str, status: u8) -> Result<String, Fail> {
+    let mut text = String::from_str(alloc, line)?;
+    if status == 2 {
+        text.push_str(TEXT_OF_USAGE)?;
+    }
+    Ok(text)
+}
+
+#[test]
+fn the_usage_text_and_the_version_are_printed(rt: HostRuntime) -> Result<(), Fail> {
+    for (word, printed) in [
+        ("--help", TEXT_OF_USAGE),
+        ("--version", "stitch_picture 0.4.0\n"),
+    ] {
+        let mut store = stocked(rt.alloc())?;
+        let mut out = MemSink::new(rt.alloc(), 1_000)?;
+        let mut err = MemSink::new(rt.alloc(), 1_000)?;
+        let found = answer(rt.alloc(), &[word], &mut store, &mut out, &mut err)?;
+        assert_eq!(rt; out.taken(), printed.as_bytes(), "{word:?}");
+        assert!(rt; err.taken().is_empty(), "{word:?}");
+        assert_eq!(rt; found, Status::Done, "{word:?}");
     }
     Ok(())
 }

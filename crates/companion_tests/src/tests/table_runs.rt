@@ -1,5 +1,5 @@
 //! Runs of commands of `stitch_drawing` over files in memory, by tables.
-use super::{edit_runs, look_runs, snap_runs, space_runs};
+use super::{edit_runs, free_runs, look_runs, near_runs, snap_runs, space_runs};
 use crate::contents::file_content;
 use drawing_commands::run;
 use outside_io::{MemSink, MemStore};
@@ -9,7 +9,7 @@ use std::test::Fail;
 
 /// A run: its arguments, separated by spaces; the calls that fail, from 1 on, of the store and of the puts on standard
 /// output and on standard error, 0 for none; and what it leaves: its status, what it prints on both, and the content of
-/// `out.rw`, if it is compared.
+/// `out.rw`, if it is compared. The usage text follows status 2.
 pub type Run = (
     &'static str,
     [u64; 3],
@@ -20,7 +20,7 @@ pub type Run = (
 );
 
 pub const USAGE: &str =
-    "usage: stitch_drawing look DRAWING [GAP]\n       stitch_drawing snap GAP DRAWING OUT\n       stitch_drawing space DRAWING OUT\n       stitch_drawing edit DRAWING OUT EDIT...\n";
+    "usage: stitch_drawing look DRAWING [GAP]\n       stitch_drawing snap GAP DRAWING OUT\n       stitch_drawing space DRAWING OUT [length=N] [leeway=N]\n       stitch_drawing free DRAWING OUT\n       stitch_drawing near DRAWING OUT\n       stitch_drawing edit DRAWING OUT EDIT...\n       stitch_drawing --help\n       stitch_drawing --version\n";
 
 /// A run that is done, with its report and the drawing that it writes, if it is compared.
 #[macro_export]
@@ -52,11 +52,11 @@ macro_rules! faulted {
     };
 }
 
-/// A run whose arguments request nothing.
+/// A run whose arguments aren't understood, with the line before the usage text.
 #[macro_export]
-macro_rules! unasked {
-    ($words:expr) => {
-        ($words, [0, 0, 0], 2, "", $crate::tests::table_runs::USAGE, Some(""))
+macro_rules! misused {
+    ($words:expr => $line:expr) => {
+        ($words, [0, 0, 0], 2, "", $line, Some(""))
     };
 }
 
@@ -82,7 +82,8 @@ fn play(
         }
         let ended = run(alloc, &given, &mut store, &mut out, &mut err);
         assert_eq!(rt; out.taken(), printed.as_bytes(), "{words:?}");
-        assert_eq!(rt; err.taken(), reported.as_bytes(), "{words:?}");
+        let expected = with_usage(alloc, reported, *status)?;
+        assert_eq!(rt; err.taken(), expected.as_bytes(), "{words:?}");
         assert_eq!(rt; ended as u8, *status, "{words:?}");
         if let Some(text) = content {
             assert_eq!(rt;
@@ -93,6 +94,15 @@ fn play(
         }
     }
     Ok(())
+}
+
+/// Returns what is on standard error: a line, and the usage text where the status says so.
+fn with_usage(alloc: Global, line: &str, status: u8) -> Result<String, Fail> {
+    let mut text = String::from_str(alloc, line)?;
+    if status == 2 {
+        text.push_str(USAGE)?;
+    }
+    Ok(text)
 }
 
 /// Returns a store with these files, and with room for `out.rw`.
@@ -112,6 +122,8 @@ fn each_run_leaves_what_its_table_says(rt: HostRuntime) -> Result<(), Fail> {
         (look_runs::FILES, look_runs::RUNS),
         (snap_runs::FILES, snap_runs::RUNS),
         (space_runs::FILES, space_runs::RUNS),
+        (free_runs::FILES, free_runs::RUNS),
+        (near_runs::FILES, near_runs::RUNS),
     ];
     for (files, runs) in tables {
         play(&rt, rt.alloc(), files, runs)?;

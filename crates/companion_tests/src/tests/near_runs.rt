@@ -1,0 +1,29 @@
+//! Runs of `stitch_drawing near` over files in memory.
+use super::table_runs::Run;
+use crate::{done, faulted, misused, refused};
+
+/// Three pieces on a line, of which the second is the farthest; lines that meet inside in version 1; and a fault.
+pub const FILES: &[(&str, &str)] = &[
+    (
+        "three.rw",
+        "redwork 2\nstep 10\ncolor 1\nline 0 0 30 0\nline 200 0 210 0\nline 50 0 60 0\n",
+    ),
+    (
+        "one.rw",
+        "redwork 1\nstep 20\ncolor 1\nline 0 0 8 0 16 0\nline 8 0 8 5\n",
+    ),
+    ("bad.rw", "redwork 2\ncolor 1\nline 0 0 40\n"),
+];
+
+pub const RUNS: &[Run] = &[
+    done!("near three.rw out.rw" =>
+        "travel 350 to 170 pieces 3\n",
+        "redwork 3\nstep 10\ncolor 1\nline 200 0 210 0\nline 50 0 60 0\nline 0 0 30 0\nstart 200 0\nstart 60 0\nstart 30 0\n"),
+    refused!("near one.rw out.rw" => "stitch_drawing: one.rw: redwork 1 can't be kept: migrate it first\n"),
+    refused!("near bad.rw out.rw" => "stitch_drawing: bad.rw: line 3: too few points\n"),
+    faulted!("near none.rw out.rw" => "stitch_drawing: cannot read none.rw\n"),
+    misused!("near out.rw out.rw" =>
+        "stitch_drawing: out.rw: is the input\n"),
+    misused!("near three.rw" =>
+        "stitch_drawing: three.rw: needs a file\n"),
+];
