@@ -1,0 +1,82 @@
+use design_commands::run_design;
+use picture_commands::run_picture;
+use program_shell::Status;
+use std::alloc::{AllocError, Global};
+use stitch_cli::run_stitch;
+use task_runs::{GrowingSink, GrowingStore, TaskProgram};
+
+/// `stitch`.
+pub(crate) struct StitchProgram;
+
+impl TaskProgram for StitchProgram {
+    ghost use Rattle.stitch_cli.specs.StitchRuns.{IsStitchRun};
+
+    ghost ends = { IsStitchRun };
+
+    fn run(
+        alloc: Global,
+        words: &[String],
+        store: &mut GrowingStore,
+        out: &mut GrowingSink,
+        err: &mut GrowingSink,
+    ) -> Result<Status, AllocError> {
+        run_stitch(alloc, words, store, out, err)
+    }
+}
+
+/// `stitch_drawing`.
+pub(crate) struct DrawingProgram;
+
+impl TaskProgram for DrawingProgram {
+    ghost use Rattle.stitch_c.specs.ProgramClauses.{IsDrawingRun};
+
+    ghost ends = { IsDrawingRun };
+
+    fn run(
+        alloc: Global,
+        words: &[String],
+        store: &mut GrowingStore,
+        out: &mut GrowingSink,
+        err: &mut GrowingSink,
+    ) -> Result<Status, AllocError> {
+        Ok(drawing_commands::run(alloc, words, store, out, err))
+    }
+}
+
+/// `stitch_picture`.
+pub(crate) struct PictureProgram;
+
+impl TaskProgram for PictureProgram {
+    ghost use Rattle.stitch_c.specs.ProgramClauses.{IsPictureRun};
+
+    ghost ends = { IsPictureRun };
+
+    fn run(
+        alloc: Global,
+        words: &[String],
+        store: &mut GrowingStore,
+        out: &mut GrowingSink,
+        err: &mut GrowingSink,
+    ) -> Result<Status, AllocError> {
+        run_picture(alloc, words, store, out, err)
+    }
+}
+
+/// `stitch_design`.
+pub(crate) struct DesignProgram;
+
+impl TaskProgram for DesignProgram {
+    ghost use Rattle.stitch_c.specs.ProgramClauses.{IsDesignRun};
+
+    ghost ends = { IsDesignRun };
+
+    fn run(
+        alloc: Global,
+        words: &[String],
+        store: &mut GrowingStore,
+        out: &mut GrowingSink,
+        err: &mut GrowingSink,
+    ) -> Result<Status, AllocError> {
+        run_design(alloc, words, store, out, err)
+    }
+}

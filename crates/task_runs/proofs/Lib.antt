@@ -1,0 +1,6 @@
+mod ChangeLemmas
+mod OutcomeFacts
+mod OutcomeLemmas
+mod RoomLemmas
+mod RoomListLemmas
+mod StoreLemmas

@@ -1,0 +1,79 @@
+ghost use Rattle.outside_io.specs.MemStores.{files_of};
+ghost use Rattle.std.specs.Prelude.{◌≡◌, ◌∷◌, [], ◌++◌, IfOk, OnOk, map, option_map, string_bytes};
+ghost use Rattle.task_bytes.specs.TaskValues.{file_value};
+ghost use Rattle.task_runs.specs.Replies.{changed_file, changed_files, is_given};
+ghost use Rattle.task_runs.specs.TaskViews.{content_after, content_in};
+
+use crate::growing_store::GrowingStore;
+use design_model::{Items, Memory};
+use std::alloc::Global;
+use task_bytes::TaskFile;
+
+/// Returns the files of these names that weren't given so, in the order of the names.
+pub(crate) fn changed_files<'a>(
+    alloc: Global,
+    given: &[TaskFile<'_>],
+    store: &'a GrowingStore,
+    names: &'a [String],
+) -> Result<Items<TaskFile<'a>>, Memory>
+    ensures { IfOk result (λ files. map file_value files
+        ≡ changed_files (map file_value given.now) (files_of store.now) (map string_bytes names.now)) }
+{
+    let mut files = Items::new(alloc);
+    for name in names {
+        add_if_changed(&mut files, given, store, name)?;
+    }
+    Ok(files)
+}
+
+/// Adds the file of a name, if there is one that wasn't given so.
+fn add_if_changed<'a>(
+    files: &mut Items<TaskFile<'a>>,
+    given: &[TaskFile<'_>],
+    store: &'a GrowingStore,
+    name: &'a str,
+) -> Result<(), Memory>
+    ensures { OnOk result (map file_value files.new ≡ map file_value files.old
+        ++ changed_file (content_in (map file_value given.now) name.now) name.now (files_of store.now name.now)) }
+{
+    let Some(content) = store.file(name) else {
+        return Ok(());
+    };
+    if is_given(given, name, content) {
+        return Ok(());
+    }
+    files.push(TaskFile { name, content })?;
+    Ok(())
+}
+
+/// Returns whether a file with that name and content was given.
+fn is_given(given: &[TaskFile<'_>], name: &str, content: &[u8]) -> bool
+    ensures { result ≡ is_given (content_in (map file_value given.now) name.now) content.now }
+{
+    match content_in(given, name) {
+        Some(found) => found == content,
+        None => false,
+    }
+}
+
+/// Returns the content of a name among files, of which the later counts.
+fn content_in<'a>(files: &[TaskFile<'a>], name: &str) -> Option<&'a [u8]>
+    ensures { option_map (λ bytes. bytes.now) result ≡ content_in (map file_value files.now) name.now }
+{
+    let mut found = None;
+    for file in files {
+        found = later(found, *file, name);
+    }
+    found
+}
+
+/// Returns the content of a file if it has that name, and else what was found before.
+fn later<'a>(found: Option<&'a [u8]>, file: TaskFile<'a>, name: &str) -> Option<&'a [u8]>
+    ensures { option_map (λ bytes. bytes.now) result
+        ≡ content_after (option_map (λ bytes. bytes.now) found.entry) (file_value file.entry ∷ []) name.now }
+{
+    if file.name == name {
+        return Some(file.content);
+    }
+    found
+}

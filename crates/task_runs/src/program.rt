@@ -1,0 +1,30 @@
+ghost use Rattle.task_runs.specs.GrowingSinks.{growing_view};
+ghost use Rattle.outside_io.specs.MemStores.{store_view};
+ghost use Rattle.program_shell.specs.RunViews.{views_of};
+ghost use Rattle.std.specs.Prelude.{IfOk, map, string_bytes};
+
+use crate::growing_sink::GrowingSink;
+use crate::growing_store::GrowingStore;
+use program_shell::Status;
+use std::alloc::{AllocError, Global};
+
+/// A program, as a task runs it.
+pub trait TaskProgram {
+    ghost use Rattle.task_runs.specs.Outcomes.{RunClause};
+
+    /// What the program states of its runs.
+    ghost ends: { RunClause };
+
+    /// Runs the program with these arguments over a store and two sinks in memory. Fails only where there is no memory
+    /// for what it needs before it begins.
+    fn run(
+        alloc: Global,
+        words: &[String],
+        store: &mut GrowingStore,
+        out: &mut GrowingSink,
+        err: &mut GrowingSink,
+    ) -> Result<Status, AllocError>
+        ensures { IfOk result (ends (map string_bytes words.now)
+            (views_of (store_view store.old) (growing_view out.old) (growing_view err.old))
+            (views_of (store_view store.new) (growing_view out.new) (growing_view err.new))) };
+}

@@ -1,0 +1,116 @@
+ghost use Rattle.design_model.specs.OutOfMemory.{UnlessOutOfMemory};
+ghost use Rattle.outside_io.specs.MemStores.{files_of};
+ghost use Rattle.program_shell.specs.ExitCodes.{exit_number};
+ghost use Rattle.std.specs.Prelude.{◌≡◌, Err, IfErr, IfOk, Ok, map};
+ghost use Rattle.task_bytes.specs.Packing.{packed_reply};
+ghost use Rattle.task_bytes.specs.TaskReading.{task_of};
+ghost use Rattle.task_bytes.specs.TaskValues.{file_value, task_is_out_of_memory, task_value};
+ghost use Rattle.task_runs.specs.NameLists.{ListsFiles};
+ghost use Rattle.task_runs.specs.Outcomes.{IsReturned, IsRunReply, ReturnsOutcome};
+ghost use Rattle.task_runs.specs.Replies.{EachChangeIsListed, reply_of};
+ghost use Rattle.task_runs.specs.TaskViews.{StoreHasTheFiles, store_of};
+
+use crate::changed_files::changed_files;
+use crate::faults::fault_reply;
+use crate::growing_sink::GrowingSink;
+use crate::growing_store::GrowingStore;
+use crate::program::TaskProgram;
+use design_model::{Bytes, Memory};
+use program_shell::Status;
+use std::alloc::Global;
+use task_bytes::{Task, TaskFault, TaskFile, pack_reply, read_task};
+
+/// Runs a packed task with a program, and returns the length of the packed reply. The reply is in the buffer if it fits
+/// there; else the buffer is unchanged, and a call with a longer one returns it.
+pub fn run_task<P: TaskProgram>(alloc: Global, request: &[u8], reply: &mut [u8]) -> usize
+    ensures { ReturnsOutcome P.ends request.now reply.old reply.new result }
+{
+    match replied::<P>(alloc, request) {
+        Ok(bytes) => deliver(bytes.as_slice(), reply),
+        Err(why) => deliver(fault_reply(why), reply),
+    }
+}
+
+/// The store of some files has them, and no other.
+pub fn store_has_the_files()
+    ensures { StoreHasTheFiles }
+{}
+
+/// Each file that a run left and that wasn't given so is among those of a list of all names.
+pub fn each_change_is_listed()
+    ensures { EachChangeIsListed }
+{}
+
+fn replied<P: TaskProgram>(alloc: Global, request: &[u8]) -> Result<Bytes, TaskFault>
+    ensures ok { IfOk result (λ bytes. (task : _) × (reply : _) × (task_of request.now ≡ Ok task)
+        × IsRunReply P.ends task reply × (bytes ≡ packed_reply reply)) }
+    ensures err { IfErr result (λ why. UnlessOutOfMemory (task_is_out_of_memory why)
+        (task_of request.now ≡ Err why)) }
+{
+    let task = read_task(alloc, request)?;
+    let bytes = run_read::<P>(alloc, &task)?;
+    Ok(bytes)
+}
+
+fn run_read<P: TaskProgram>(alloc: Global, task: &Task<'_>) -> Result<Bytes, Memory>
+    ensures { IfOk result (λ bytes. (reply : _) × IsRunReply P.ends (task_value task.now) reply
+        × (bytes ≡ packed_reply reply)) }
+{
+    let mut store = store_of(alloc, task.files.as_slice())?;
+    let mut out = GrowingSink::new(alloc);
+    let mut err = GrowingSink::new(alloc);
+    let status = P::run(alloc, task.words.as_slice(), &mut store, &mut out, &mut err)?;
+    let reply = pack_run(alloc, task, status, &store, &out, &err)?;
+    Ok(reply)
+}
+
+/// Packs the reply of a run that ended with this status, and left this store and these sinks.
+fn pack_run(
+    alloc: Global,
+    task: &Task<'_>,
+    status: Status,
+    store: &GrowingStore,
+    out: &GrowingSink,
+    err: &GrowingSink,
+) -> Result<Bytes, Memory>
+    ensures { IfOk result (λ bytes. (names : _) × ListsFiles names (files_of store.now) × (bytes
+        ≡ packed_reply (reply_of (task_value task.now) status store.now names out.now err.now))) }
+{
+    let files = changed_files(alloc, task.files.as_slice(), store, store.names())?;
+    let reply = pack_reply(
+        alloc,
+        outcome(status),
+        out.taken(),
+        err.taken(),
+        files.as_slice(),
+    )?;
+    Ok(reply)
+}
+
+/// Returns the outcome of a run that ended with that status.
+fn outcome(status: Status) -> usize
+    ensures { result ≡ exit_number status }
+{
+    status as usize
+}
+
+/// Returns a store with these files.
+fn store_of(alloc: Global, files: &[TaskFile<'_>]) -> Result<GrowingStore, Memory>
+    ensures { IfOk result (λ store. store ≡ store_of (map file_value files.now)) }
+{
+    let mut store = GrowingStore::new(alloc);
+    for file in files {
+        store.put_file(file.name, file.content)?;
+    }
+    Ok(store)
+}
+
+/// Copies the bytes into the buffer if they fit, and returns their number.
+fn deliver(bytes: &[u8], to: &mut [u8]) -> usize
+    ensures { IsReturned bytes.now to.old to.new result }
+{
+    if bytes.len() <= to.len() {
+        to[..bytes.len()].copy_from_slice(bytes);
+    }
+    bytes.len()
+}
