@@ -1,0 +1,136 @@
+"""Tests python/stitch.py, each function once, against the built programs where they are there, and convert_folder.py."""
+import os
+import subprocess
+import sys
+import tempfile
+
+import stitch
+
+HOME = sys.argv[1]
+DRAWING = b"redwork 3\nstep 10\ncolor 5\nline 0 0 20 0\n"
+LIST = (b"stitch-list 1\nlabel []\nblock 5\nneedle 0 0\nneedle 30 0\nneedle 60 0\nneedle 30 0\nneedle 0 0\ntrim\n"
+        b"end\n")
+failed = 0
+
+
+def same(what, found, wanted):
+    """Compares a value with the one that is wanted."""
+    global failed
+    if found != wanted:
+        failed += 1
+        print(f"python: {what}\n  wanted {wanted!r}\n  found  {found!r}", file=sys.stderr)
+
+
+def raised(call, *arguments, **more):
+    """The kind and text of the exception that a call raises."""
+    try:
+        call(*arguments, **more)
+    except (stitch.Refused, stitch.Failed) as why:
+        return type(why).__name__, str(why)
+    return None
+
+
+def by_program(program, words, files):
+    """The status, the output, the report and the written files of a built program, or None where it isn't built."""
+    path = os.path.join(HOME, "crates", program, "out", program)
+    if not os.access(path, os.X_OK):
+        return None
+    with tempfile.TemporaryDirectory() as folder:
+        for name, content in files.items():
+            open(os.path.join(folder, name), "wb").write(content)
+        ran = subprocess.run([path, *words], cwd=folder, capture_output=True, text=True)
+        left = {name: open(os.path.join(folder, name), "rb").read() for name in os.listdir(folder)}
+    changed = {name: content for name, content in left.items() if files.get(name) != content}
+    return stitch.Reply(ran.returncode, ran.stdout, ran.stderr, changed)
+
+
+def as_program(program, words, files):
+    """Compares a run of the library with one of the built program."""
+    wanted = by_program(program, words, files)
+    if wanted:
+        same(f"{program} {' '.join(words)}", stitch.run(program, words, files), wanted)
+
+
+def test_functions():
+    routed = stitch.route(DRAWING, "pes")
+    stitch.check(DRAWING, routed.design, "pes", routed.certificate)
+    same("report", routed.report.splitlines()[-1], "pieces 1 penetrations 5")
+    same("check", raised(stitch.check, DRAWING, LIST, "lst", routed.certificate)[0], "Refused")
+    doubled = stitch.double(DRAWING, "exp")
+    same("double", raised(stitch.compare, doubled.design, "exp", routed.design, "pes"), None)
+    dst = stitch.convert(LIST, "lst", "dst")
+    same("compare", raised(stitch.compare, dst, "dst", LIST, "lst"), None)
+    same("same list", stitch.convert(LIST, "lst", "lst"), LIST)
+    same("edit", stitch.edit(LIST, "lst", "lst", "shift=0,5"), LIST.replace(b" 0\n", b" 5\n"))
+    same("show", stitch.show(LIST, "lst").splitlines()[0], "format lst")
+    same("hoop", raised(stitch.hoop, LIST, "lst", 1000, 10), None)
+    same("no hoop", raised(stitch.hoop, LIST, "lst", 10, 10)[0], "Refused")
+    same("sample", raised(stitch.route, stitch.sample(3), "dst"), None)
+    same("migrate", stitch.migrate(DRAWING.replace(b"redwork 3", b"redwork 1")), DRAWING.replace(b"redwork 3", b"redwork 2"))
+    same("trace", stitch.trace(routed.design, "pes").splitlines()[-1], b"line 0 0 10 0 20 0")
+    same("picture", stitch.picture(LIST, "lst")[:5], "<svg ")
+    same("drawing", stitch.picture(DRAWING, "rw")[:5], "<svg ")
+    same("proof", stitch.proof_picture(DRAWING, routed.certificate)[:5], "<svg ")
+    same("look", stitch.look(DRAWING, 3).splitlines()[-1], "pieces 1 places 0 thread 20 travel 0")
+    same("snap", stitch.snap(2, DRAWING), DRAWING.replace(b"redwork 3", b"redwork 2"))
+    same("space", stitch.space(DRAWING), DRAWING.replace(b"redwork 3", b"redwork 2"))
+    same("spaced", stitch.space(DRAWING, length=10, leeway=1), DRAWING.replace(b"redwork 3", b"redwork 2"))
+    same("free", stitch.free(DRAWING).splitlines()[-2:], [b"start 0 0", b"end 20 0"])
+    same("near", stitch.near(DRAWING), DRAWING.replace(b"redwork 3", b"redwork 2"))
+    tied = stitch.edit_design(LIST, "lst", "dst", "tie")
+    same("bare", stitch.edit_design(tied, "dst", "lst", "bare"), LIST.replace(b"block 5", b"block 1"))
+    same("edit_drawing", stitch.edit_drawing(DRAWING, "shift=0,5").splitlines()[-1], b"line 0 5 20 5")
+    same("review", stitch.review(LIST, "lst", tie=0).splitlines()[-1], "places 0")
+    same("threads", len(stitch.threads().splitlines()), 64)
+    same("thread", stitch.threads(LIST, "lst"), "block 1 thread 5 Red #ed171f needles 5 length 120\n")
+
+
+def test_refusals():
+    same("line", raised(stitch.route, b"redwork 3\nstep 10\nline 0 0\n", "dst"),
+         by_line("stitch", ["route", "in.rw", "out.dst", "out.cert"], {"in.rw": b"redwork 3\nstep 10\nline 0 0\n"}))
+    same("usage", raised(stitch.show, LIST, "svg")[0], "Failed")
+    same("no task", stitch.unpacked(stitch.called("stitch", b"\1\0\0")), stitch.Reply(100, "", "task: cut off\n", {}))
+
+
+def by_line(program, words, files):
+    """What a function raises where the built program refuses, or what the library says where it isn't built."""
+    reply = by_program(program, words, files) or stitch.run(program, words, files)
+    return "Refused", reply.err.rstrip("\n").removeprefix(f"{program}: ")
+
+
+def test_programs():
+    examples = os.path.join(HOME, "examples")
+    for name in sorted(os.listdir(examples)):
+        if name.endswith(".rw"):
+            drawing = open(os.path.join(examples, name), "rb").read()
+            for ending in ("dst", "exp", "pec", "pes", "lst"):
+                as_program("stitch", ["route", "a.rw", f"b.{ending}", "c.cert"], {"a.rw": drawing})
+            as_program("stitch_picture", ["a.rw", "b.svg"], {"a.rw": drawing})
+            as_program("stitch_drawing", ["look", "a.rw"], {"a.rw": drawing})
+            for command in ("space", "free", "near"):
+                as_program("stitch_drawing", [command, "a.rw", "b.rw"], {"a.rw": drawing})
+    as_program("stitch_design", ["look", "a.lst"], {"a.lst": LIST})
+    as_program("stitch_design", ["compare", "a.lst", "b.lst"], {"a.lst": LIST})
+    as_program("stitch_design", ["edit", "a.lst", "b.pes", "tie", "centre"], {"a.lst": LIST})
+    as_program("stitch_design", [], {})
+
+
+def test_folder():
+    with tempfile.TemporaryDirectory() as folder:
+        source, target = os.path.join(folder, "in"), os.path.join(folder, "out")
+        os.mkdir(source)
+        open(os.path.join(source, "a.lst"), "wb").write(LIST)
+        open(os.path.join(source, "b.lst"), "wb").write(b"no list\n")
+        open(os.path.join(source, "c.txt"), "wb").write(b"")
+        ran = subprocess.run([sys.executable, os.path.join(HOME, "python", "convert_folder.py"), source, "dst", target],
+                             capture_output=True, text=True)
+        lines = ran.stdout.splitlines()
+        same("folder", (ran.returncode, lines[0], lines[-1], sorted(os.listdir(target))),
+             (1, "a.lst: a.dst", "2 files, 1 converted, 1 refused", ["a.dst"]))
+        same("folder's file", open(os.path.join(target, "a.dst"), "rb").read(), stitch.convert(LIST, "lst", "dst"))
+
+
+for test in (test_functions, test_refusals, test_programs, test_folder):
+    test()
+print(f"python: {failed} failed" if failed else "python: all as wanted")
+sys.exit(bool(failed))
