@@ -1,0 +1,320 @@
+"""Tests the page in Chromium: page_cases.py FOLDER PICTURES [WORD..], FOLDER having stitch.html. Runs the tests whose names have
+one of the words, or all."""
+import io
+import os
+import random
+import struct
+import sys
+import types
+import zipfile
+
+sys.dont_write_bytecode = True
+from page_browser import By, Page, WebDriverException, native  # noqa: E402
+
+TOP = os.path.dirname(os.path.dirname(os.path.abspath(__file__)))
+FOLDER, PICTURES, WORDS = sys.argv[1], sys.argv[2], sys.argv[3:]
+FORMATS = ["dst", "exp", "pec", "pes", "lst"]
+VIEWS = ["Open", "Drawing", "Route", "Play", "Keep", "Check", "Convert", "What is proved"]
+failed = 0
+
+
+def wrong(title, wanted, found):
+    global failed
+    failed += 1
+    print(f"page: {title}\n  wanted {str(wanted)[:600]}\n  found  {str(found)[:600]}", file=sys.stderr)
+
+
+def examples(ending):
+    """The contents of the examples with this ending, by name."""
+    names = sorted(name for name in os.listdir(os.path.join(TOP, "examples")) if name.endswith(ending))
+    return {name: open(os.path.join(TOP, "examples", name), "rb").read() for name in names}
+
+
+def same(page, program, words, files):
+    """Runs a program in the page and as it is built, compares all that they leave, and returns the files."""
+    wanted, found = native(program, words, files), page.run(program, words, files)[:4]
+    if wanted != found:
+        parts = [one for one in range(4) if wanted[one] != found[one]]
+        wrong((program, words), [wanted[one] for one in parts], [found[one] for one in parts])
+    return wanted[3]
+
+
+def test_examples(page):
+    """Every example in every format by both ways, its conversions, its pictures, and every other command."""
+    for name, content in examples(".rw").items():
+        drawing = {name: content}
+        for ending in FORMATS:
+            made = same(page, "stitch", ["route", name, f"a.{ending}", "a.cert"], drawing)
+            if len(made) == 2:
+                same(page, "stitch", ["check", name, f"a.{ending}", "a.cert"], {**drawing, **made})
+                same(page, "stitch", ["show", f"a.{ending}"], made)
+                same(page, "stitch_picture", [f"a.{ending}", "a.svg"], made)
+            same(page, "stitch", ["double", name, f"a.{ending}", "a.cert"], drawing)
+        made = same(page, "stitch", ["route", name, "a.pes", "a.cert"], drawing)
+        for words in (["convert", "a.pes", "b.dst"], ["convert", "a.pes", "b.lst", "--cut", "--split"], ["hoop", "a.pes", 500, 700],
+                      ["edit", "a.pes", "b.pes", "turn=1", "shift=5,-7", "thread=1,9"], ["trace", "a.pes", "b.rw"]):
+            same(page, "stitch", words, {"a.pes": made["a.pes"]})
+        same(page, "stitch", ["migrate", name, "b.rw"], drawing)
+        for words in (["look", name], ["look", name, 7], ["snap", 3, name, "b.rw"], ["space", name, "b.rw"],
+                      ["edit", name, "b.rw", "turn=1", "centre", "step=30"]):
+            same(page, "stitch_drawing", words, drawing)
+        same(page, "stitch_picture", [name, "a.svg"], drawing)
+        same(page, "stitch_picture", [name, "a.cert", "a.svg"], {**drawing, **made})
+        same(page, "stitch_picture", ["a.pes", "a.svg", 900, 1200], made)
+
+
+def test_samples(page):
+    """200 sample drawings, each in one of the formats."""
+    chance = random.Random(20261130)
+    for count in range(200):
+        made = same(page, "stitch", ["sample", chance.randint(1, 999999), "a.rw"], {})
+        ending = FORMATS[count % 5]
+        sewn = same(page, "stitch", ["route", "a.rw", f"a.{ending}", "a.cert"], made)
+        same(page, "stitch", ["check", "a.rw", f"a.{ending}", "a.cert"], {**made, **sewn})
+
+
+def test_refusals(page):
+    """Refusals of each kind, missing files, and arguments that request nothing."""
+    rose, long = examples("rose.rw")["rose.rw"], examples("long.exp")["long.exp"]
+    for words, files in ((["convert", "long.exp", "long.dst"], {"long.exp": long}), (["convert", "a.pes", "b.pes"], {}),
+                         (["route", "a.rw", "a.pes", "a.cert"], {"a.rw": b"redwork 4\n"}), ([], {}), (["none"], {}),
+                         (["route", "a.rw", "a.pes", "a.cert"], {"a.rw": b"redwork 1\ncolor 1\nline 0 0 0 x\n"}),
+                         (["route", "a.rw", "a.dst", "a.cert"], {"a.rw": rose.replace(b"name Rose", b"step 200")}),
+                         (["check", "a.rw", "a.exp", "a.cert"], {"a.rw": rose, "a.exp": long, "a.cert": b"none\n"}),
+                         (["show", "a.pes"], {"a.pes": b"short"}), (["show", "\u00e4 \u4e2d.exp"], {"\u00e4 \u4e2d.exp": long}),
+                         (["sample", "0", "a.rw"], {}), (["hoop", "long.exp", "1", "1"], {"long.exp": long})):
+        same(page, "stitch", words, files)
+    for words, files in ((["look", "a.rw"], {"a.rw": b"\xff\x00"}), (["snap", "101", "a.rw", "b.rw"], {"a.rw": rose}),
+                         (["edit", "a.rw", "b.rw", "order=1,9"], {"a.rw": rose}), (["edit", "a.rw", "b.rw", "start=1,1"], {"a.rw": rose})):
+        same(page, "stitch_drawing", words, files)
+    for words, files in ((["a.rw", "a.svg"], {}), (["long.exp", "a.png"], {"long.exp": long}),
+                         (["a.rw", "a.cert", "a.svg"], {"a.rw": rose, "a.cert": b"redwork-certificate 1\nend\n"})):
+        same(page, "stitch_picture", words, files)
+
+
+def grid(size):
+    """A drawing of about 2 size * size lines, no two junctions of which are alike."""
+    chance = random.Random(size)
+    at = {(i, j): (100 * i + chance.randrange(50), 100 * j + chance.randrange(50)) for i in range(size + 1) for j in range(size + 1)}
+    lines = [(at[i, j], at[i + 1, j]) for j in range(size + 1) for i in range(size)]
+    lines += [(at[i, j], at[i, j + 1]) for i in range(size + 1) for j in range(size)]
+    return ("redwork 2\ncolor 1\n" + "".join(f"line {a} {b} {c} {d}\n" for (a, b), (c, d) in lines)).encode()
+
+
+def test_limits(page):
+    """A drawing at the limit of lines, one at the limit of steps, and a design of 1,000,000 commands, below 1 GB."""
+    steps = ("redwork 1\nstep 1\ncolor 1\n" + "".join(f"line -30000 {y} 30000 {y}\n" for y in (0, 20, 40))).encode()
+    turns = [(1, 0), (0, 1), (-1, 0), (0, -1)]
+    long = b"".join(struct.pack("bb", *turns[k % 4]) for k in range(1000000))
+    for program, words, files in (("stitch", ["route", "a.rw", "a.pes", "a.cert"], {"a.rw": grid(21)}),
+                                  ("stitch_drawing", ["look", "a.rw"], {"a.rw": grid(21)}),
+                                  ("stitch", ["route", "a.rw", "a.dst", "a.cert"], {"a.rw": steps}),
+                                  ("stitch", ["convert", "a.exp", "b.pes"], {"a.exp": long}),
+                                  ("stitch_picture", ["a.exp", "b.svg"], {"a.exp": long})):
+        same(page, program, words, files)
+        reply = page.run(program, words, files)[4]
+        print(f"page: {program} {words[0]}: {reply['milliseconds']:.0f} ms, {reply['memory'] / 1e6:.0f} MB")
+        if reply["memory"] > 1e9:
+            wrong((program, words), "below 1 GB", reply["memory"])
+
+
+def test_svg(page):
+    """The drawings of SVG files are those of from_svg.py, for the rows of .ci/svg_cases.py that are drawn, and the examples."""
+    sys.path.insert(0, os.path.join(TOP, "examples"))
+    try:
+        import from_svg as ours
+    except ImportError:
+        ours = None
+    if ours is None or ours.library is None:
+        print("page: no svgelements: SVG files aren't compared")
+        return
+    rows = [(content.decode(), {}) for content in examples(".svg").values()] + svg_rows(ours)
+    drawn = 0
+    for document, options in rows:
+        source, target = os.path.join(FOLDER, "a.svg"), os.path.join(FOLDER, "a.rw")
+        with open(source, "w", encoding="utf-8") as file:
+            file.write(document)
+        words = [f"--{name}" if value is True else f"--{name}={value}" for name, value in options.items()]
+        status, report = ours.run([source, target, *words])
+        given = {{"centre": "isCentred"}.get(name, name): value for name, value in options.items()}
+        found = page.driver.execute_script("return window.stitch.svg(...arguments)", document, given)
+        if (status == 0) != ("text" in found) or status == 0 and open(target).read() != found["text"]:
+            wrong(document[:300], (status, report), found)
+        drawn += status == 0
+    print(f"page: of {len(rows)} SVG files {drawn} were drawn")
+
+
+def svg_rows(ours):
+    """The documents of .ci/svg_cases.py, with their options, but for those that take long."""
+    rows = []
+
+    def run(words):
+        found = ours.options_of(words)
+        if found:
+            content = open(found[0][0], "rb").read()
+            try:
+                if len(content) < 50000:
+                    rows.append((content.decode(), found[1]))
+            except UnicodeDecodeError:
+                pass
+        return ours.run(words)
+    # its spoiled files are left out, and so is its alarm, since here the machine may be slow
+    code = open(os.path.join(TOP, ".ci", "svg_cases.py")).read()
+    code = code.replace("range(2000)", "range(0)").replace("ITIMER_REAL, 10)", "ITIMER_REAL, 0)")
+    argv, before = sys.argv, sys.modules["from_svg"]
+    sys.argv, sys.modules["from_svg"] = ["svg_cases.py", FOLDER], types.SimpleNamespace(run=run)
+    try:
+        exec(compile(code, "svg_cases.py", "exec"), {"__file__": os.path.join(TOP, ".ci", "svg_cases.py"), "__name__": "svg_cases"})
+    except SystemExit:
+        pass
+    finally:
+        sys.argv, sys.modules["from_svg"] = argv, before
+    return rows
+
+
+def test_way(page):
+    """By the hand's way from an SVG file to saved files: each is what the built programs write."""
+    svg = examples("bird.svg")
+    page.drop(svg)
+    page.click("To the drawing")
+    page.settle()
+    page.click("Snap")
+    page.settle()
+    page.click("Even stitches")
+    page.settle()
+    words = page.driver.find_element(By.TAG_NAME, "textarea").get_property("value").encode()
+    page.click("Route it")
+    page.settle()
+    page.click("Keep the files")
+    page.settle()
+    wanted = {"bird.rw": words, **native("stitch", ["route", "bird.rw", "bird.pes", "bird.cert"], {"bird.rw": words})[3]}
+    for name, content in wanted.items():
+        page.click(f"Save {name}")
+        if page.saved_file(name) != content:
+            wrong(f"saved {name}", len(content), "another content")
+    machine = [one.get_attribute("aria-label") for one in page.shown("button") if "machine" in (one.get_attribute("aria-label") or "")]
+    if "stitch_design" in page.driver.execute_script("return window.stitch.programs") and machine != ["Save bird-machine.pes"]:
+        wrong("the tied design", "Save bird-machine.pes", machine)
+    page.click("All of them as one zip")
+    kept = zipfile.ZipFile(io.BytesIO(page.saved_file("bird.zip")))
+    if kept.testzip() or any(kept.read(name) != content for name, content in wanted.items()):
+        wrong("the zip", sorted(wanted), kept.namelist())
+    made = native("stitch_picture", ["bird.rw", "bird.cert", "bird-proof.svg"], wanted)[3]
+    if kept.read("bird-proof.svg") != made["bird-proof.svg"]:
+        wrong("the proof's picture", "that of the program", "another")
+    yes = [one.text for one in page.shown(".verdict")]
+    if not yes or not yes[-1].startswith("Checked: yes"):
+        wrong("the verdict", "yes", yes)
+
+
+def test_check(page):
+    """Three files that are dropped are checked: yes, and the reason of a no."""
+    rose = examples("rose.rw")
+    made = native("stitch", ["route", "rose.rw", "rose.pes", "rose.cert"], rose)[3]
+    for files, wanted in (({**rose, **made}, "yes"), ({**made, "rose.rw": examples("square.rw")["square.rw"]}, "no")):
+        page.click("Open", "[role=tab]")
+        page.drop(files)
+        page.settle()
+        found = page.shown(".answer .yes, .answer .no")[0].text
+        if found != wanted:
+            wrong("check of dropped files", wanted, found)
+
+
+def test_stop(page):
+    """A run that is stopped ends, and the next one goes on."""
+    page.driver.execute_script("""const turns = [1, 0, 0, 1, -1, 0, 0, -1], bytes = new Uint8Array(2000000).map((_, k) => turns[k % 8]);
+        window.ended = ''; window.stitch.run('stitch_picture', ['a.exp', 'b.svg'], [{ name: 'a.exp', bytes }])
+            .then(() => { window.ended = 'done'; }, () => { window.ended = 'stopped'; });""")
+    page.click("Stop")
+    page.until(lambda: page.driver.execute_script("return window.ended") == "stopped")
+    same(page, "stitch", ["sample", 75, "a.rw"], {})
+
+
+def test_faults_in_text(page):
+    """A line of the text that is refused is marked, and undone it is right again."""
+    page.drop(examples("rose.rw"))
+    page.settle()
+    area = page.driver.find_element(By.TAG_NAME, "textarea")
+    page.driver.execute_script("arguments[0].value = arguments[0].value.replace('color 5', 'colour 5');"
+                               "arguments[0].dispatchEvent(new Event('input', { bubbles: true }));", area)
+    page.until(lambda: page.shown(".gutter .wrong"))
+    found = page.shown(".gutter .wrong")[0].text, page.shown(".refused")[0].text
+    if found != ("12", "stitch_drawing: rose.rw: line 12: word not understood"):
+        wrong("the marked line", "line 12", found)
+    page.click("Undo")
+    page.until(lambda: not page.shown(".gutter .wrong"))
+
+
+def test_names(page):
+    """Every control has a name for a screen reader, and the tabs go by arrow keys."""
+    page.drop(examples("rose.rw"))
+    page.settle()
+    for view in VIEWS:
+        page.click(view, "[role=tab]")
+        page.settle()
+        page.driver.execute_script("for (const one of document.querySelectorAll('details')) one.open = true;")
+        for control in page.shown("button, input, select, textarea, canvas, [role=group], [role=region], img, svg[role=img]"):
+            if not control.accessible_name:
+                wrong(f"{view}: a control without a name", "a name", control.get_attribute("outerHTML")[:200])
+    tab = page.shown("[role=tab][aria-selected=true]")[0]
+    tab.send_keys("\ue012")
+    if page.shown("[role=tab][aria-selected=true]")[0].text != VIEWS[-2]:
+        wrong("an arrow key", VIEWS[-2], page.shown("[role=tab][aria-selected=true]")[0].text)
+
+
+def test_pictures(page):
+    """Screenshots of each view, wide and narrow. Nothing is wider than the page."""
+    made = native("stitch", ["route", "rose.rw", "rose.pes", "rose.cert"], examples("rose.rw"))[3]
+    for width, height in ((1280, 1000), (400, 900)):
+        page.resize(width, height)
+        page.drop(examples("snail.svg"))
+        page.settle()
+        shoot(page, "svg", width)
+        page.drop(examples("motif.rw"))
+        for view in VIEWS:
+            if view == "Check":
+                page.drop({**examples("rose.rw"), **made})
+            if view == "Convert":
+                page.click("Open", "[role=tab]")
+                page.drop({"rose.pes": made["rose.pes"]})
+            page.click(view, "[role=tab]")
+            page.settle()
+            shoot(page, view.lower().replace(" ", "-"), width)
+            if view == "Route":
+                page.click("Proof")
+                page.settle()
+                shoot(page, "proof", width)
+    page.resize(1280, 900)
+
+
+def shoot(page, name, width):
+    """A screenshot of the entire page."""
+    size = page.driver.execute_script("return [document.documentElement.scrollWidth, document.documentElement.scrollHeight]")
+    if size[0] > width:
+        wrong(f"{name}: the width", width, size[0])
+    page.resize(width, min(max(size[1], 700), 3000))
+    page.picture(os.path.join(PICTURES, f"{name}-{width}.png"))
+    page.resize(width, 1000)
+
+
+def main():
+    saved = os.path.join(FOLDER, "saved")
+    os.mkdir(saved)
+    page = Page(os.path.join(FOLDER, "stitch.html"), saved, (1280, 900))
+    try:
+        for name, test in list(globals().items()):
+            if name.startswith("test_") and (not WORDS or any(word in name for word in WORDS)):
+                try:
+                    test(page)
+                except (AssertionError, WebDriverException) as why:
+                    wrong(name, "no failure", f"{type(why).__name__}: {why}")
+                for fault in page.faults():
+                    wrong(name, "no fault", fault)
+    finally:
+        page.driver.quit()
+    print(f"page: {failed} failed")
+    return failed > 0
+
+
+if __name__ == "__main__":
+    sys.exit(main())

@@ -1,0 +1,94 @@
+// Elements of the page, made with their attributes, listeners and children.
+import { text } from "./texts.js";
+
+const SVG = "http://www.w3.org/2000/svg";
+let count = 0;
+
+// Gives an element its attributes: functions are listeners, and true or false says whether an attribute is there.
+function dressed(element, attributes, children) {
+    for (const [name, value] of Object.entries(attributes)) {
+        if (typeof value === "function") element.addEventListener(name, value);
+        else if (name === "value") element.value = value;
+        else if (value === true) element.setAttribute(name, "");
+        else if (value !== false && value !== null && value !== undefined) element.setAttribute(name, value);
+    }
+    element.append(...children.flat(Infinity).filter(child => child !== null && child !== undefined && child !== false));
+    return element;
+}
+
+export function make(tag, attributes = {}, ...children) {
+    return dressed(document.createElement(tag), attributes, children);
+}
+
+export function drawn(tag, attributes = {}, ...children) {
+    return dressed(document.createElementNS(SVG, tag), attributes, children);
+}
+
+// A button with a text of texts.json.
+export function button(key, click, attributes = {}) {
+    return make("button", { type: "button", click, ...attributes }, text(key));
+}
+
+// A control with its label before it, and a unit after it.
+export function field(key, control, unit = "") {
+    control.id ||= `field-${++count}`;
+    return make("span", { class: "field" }, make("label", { for: control.id }, text(key)), control,
+        unit && make("span", { class: "unit" }, unit));
+}
+
+// A control with its label after it.
+export function choice(key, control) {
+    control.id ||= `field-${++count}`;
+    return make("span", { class: "choice" }, control, make("label", { for: control.id }, text(key)));
+}
+
+// A place to choose a file at, with a line that says what is chosen or can be.
+export function chooser(key, input, line, attributes = {}) {
+    input.id ||= `field-${++count}`;
+    return make("label", { class: "drop", for: input.id, ...attributes }, make("strong", {}, text(key)), line, input);
+}
+
+// The head of a view: its title, and where one goes on from it.
+export function head(key, ...onward) {
+    return make("div", { class: "title" }, make("h2", {}, text(key)), onward.length > 0 && make("div", { class: "onward" }, onward));
+}
+
+// A field for millimetres, whose value is tenths.
+export function millimetres(tenths, attributes = {}) {
+    return make("input", { type: "number", step: "0.1", inputmode: "decimal", value: tenths / 10, ...attributes });
+}
+
+// The tenths of a field for millimetres.
+export function tenthsOf(input) {
+    return Math.round(Number(input.value) * 10);
+}
+
+// Tenths of a millimetre as millimetres.
+export function mm(tenths) {
+    return (tenths / 10).toFixed(1);
+}
+
+// A menu of values with their texts.
+export function menu(options, attributes = {}) {
+    const select = make("select", attributes, options.map(([value, words]) => make("option", { value }, words)));
+    return select;
+}
+
+// A table: the keys of its heads, and rows of texts and elements. The first column is text, the others are numbers.
+export function table(heads, rows, attributes = {}) {
+    return make("div", { class: "wide", tabindex: "0", role: "region", "aria-label": attributes.label },
+        make("table", {}, make("thead", {}, make("tr", {}, heads.map(key => make("th", { scope: "col" }, text(key))))),
+            make("tbody", {}, rows.map(row => make("tr", {}, row.map(cell => make("td", {}, cell)))))));
+}
+
+// Moves what a scrolled element shows so that one of those inside is in its middle; the page stays where it is.
+export function centreIn(frame, element) {
+    const [outer, inner] = [frame.getBoundingClientRect(), element.getBoundingClientRect()];
+    frame.scrollBy((inner.left + inner.right - outer.left - outer.right) / 2, (inner.top + inner.bottom - outer.top - outer.bottom) / 2);
+}
+
+// Replaces what an element holds.
+export function fill(element, ...children) {
+    element.replaceChildren(...children.flat(Infinity).filter(child => child !== null && child !== undefined && child !== false));
+    return element;
+}

@@ -1,0 +1,39 @@
+// Runs the programs of the module, each run in an instance of its own, beside the page.
+import { packRequest, unpackReply } from "./packing.js";
+
+// The bytes that are prepared for a reply, and how many more for each byte of the request. A longer reply is made again, in as
+// many as it needs.
+const ROOM = 1 << 24, ROOM_EACH = 48;
+let compiled;
+
+// Places bytes in the memory of an instance, and returns where.
+function place(exports, length) {
+    const at = Number(exports.stitch_alloc(BigInt(length)));
+    if (!at) throw new RangeError("no memory");
+    return at;
+}
+
+// The reply of a program, or the length that it needs where that is more than the room.
+function replyOf(program, request, room) {
+    const { exports } = new WebAssembly.Instance(compiled, {});
+    const at = place(exports, request.length), to = place(exports, room);
+    new Uint8Array(exports.memory.buffer, at, request.length).set(request);
+    const length = Number(exports[`${program}_run`](BigInt(at), BigInt(request.length), BigInt(to), BigInt(room)));
+    const memory = exports.memory.buffer.byteLength;
+    return length > room ? { length } : { ...unpackReply(new Uint8Array(exports.memory.buffer, to, length)), memory };
+}
+
+onmessage = ({ data: { module, id, program, words, files } }) => {
+    if (module) {
+        compiled = module;
+        return;
+    }
+    const started = performance.now();
+    try {
+        const request = packRequest(words, files), first = replyOf(program, request, ROOM + ROOM_EACH * request.length);
+        const reply = first.length ? replyOf(program, request, first.length) : first;
+        postMessage({ id, milliseconds: performance.now() - started, ...reply });
+    } catch (why) {
+        postMessage({ id, milliseconds: performance.now() - started, failed: String(why) });
+    }
+};
