@@ -21,10 +21,16 @@ USAGE = {
         "       stitch trace FILE DRAWING", "       stitch double DRAWING OUT CERT"),
     "stitch_picture": text(
         "usage: stitch_picture FILE OUT.svg [WIDTH HEIGHT]", "       stitch_picture DRAWING OUT.svg",
-        "       stitch_picture DRAWING CERT OUT.svg"),
+        "       stitch_picture DRAWING CERT OUT.svg", "       stitch_picture --help", "       stitch_picture --version"),
     "stitch_drawing": text(
         "usage: stitch_drawing look DRAWING [GAP]", "       stitch_drawing snap GAP DRAWING OUT",
-        "       stitch_drawing space DRAWING OUT", "       stitch_drawing edit DRAWING OUT EDIT..."),
+        "       stitch_drawing space DRAWING OUT [length=N] [leeway=N]", "       stitch_drawing free DRAWING OUT",
+        "       stitch_drawing near DRAWING OUT", "       stitch_drawing edit DRAWING OUT EDIT...",
+        "       stitch_drawing --help", "       stitch_drawing --version"),
+    "stitch_design": text(
+        "usage: stitch_design look FILE [KEY=N...]", "       stitch_design pass FILE [KEY=N...]",
+        "       stitch_design edit IN OUT EDIT...", "       stitch_design compare A B [--threads]",
+        "       stitch_design threads [FILE]", "       stitch_design --help", "       stitch_design --version"),
 }
 
 
@@ -46,9 +52,16 @@ def refused(words, what):
     return Step(words, 1, "", f"{program_of(words)}: {what}\n", {})
 
 
-def misused(words):
-    """Arguments that request nothing: the usage text, and no file changes."""
-    return Step(words, 2, "", USAGE[program_of(words)], {})
+def misused(words, what=None):
+    """Arguments that request nothing: the usage text, after a line about the first that isn't understood where the program
+    names it, and no file changes."""
+    said = "" if what is None else f"{program_of(words)}: {what}\n"
+    return Step(words, 2, "", said + USAGE[program_of(words)], {})
+
+
+def mistaken(*cases):
+    """Arguments of which one isn't understood, each with what is said of it."""
+    return [misused(words, what) for words, what in cases]
 
 
 def failed(words, what, after=None):
@@ -87,7 +100,9 @@ def of_design(ending):
     return [f"stitch show {name}", f"stitch convert {name} b.lst", f"stitch convert {name} b.dst --cut --split",
             f"stitch edit {name} b.lst turn=0", f"stitch hoop {name} 10 10", f"stitch trace {name} b.rw",
             f"stitch check given.rw {name} given.cert", f"stitch_picture {name} b.svg",
-            f"stitch_picture {name} b.svg 10 10"]
+            f"stitch_picture {name} b.svg 10 10", f"stitch_design look {name}", f"stitch_design pass {name}",
+            f"stitch_design compare {name} given.lst", f"stitch_design threads {name}",
+            f"stitch_design edit {name} b.lst tie"]
 
 
 # ---- arguments ----
@@ -121,28 +136,56 @@ row("usage of stitch, with files there", HERE, *map(misused, [
     ["stitch", "show", ""], ["stitch", "migrate", "a.rw", ""], ["stitch", "route", "", "b.dst", "b.cert"],
     ["stitch", "show", "a" * 4093 + ".lst"], ["stitch", "edit", "a.lst", "b.lst", ""]]))
 
-row("usage of stitch_picture, with files there", HERE, *map(misused, [
-    "stitch_picture", "stitch_picture a.lst", "stitch_picture a.lst b.txt", "stitch_picture a.lst B.SVG",
-    "stitch_picture a.lst b.svg 10", "stitch_picture a.lst b.svg 0 10", "stitch_picture a.lst b.svg 10 0",
-    "stitch_picture a.lst b.svg 100001 10", "stitch_picture a.lst b.svg 10 100001", "stitch_picture a.lst b.svg x 10",
-    "stitch_picture a.lst b.svg 10 10 10", "stitch_picture a.svg a.svg", "stitch_picture a.rw a.svg 10 10",
-    "stitch_picture a.rw a.svg a.svg", "stitch_picture a.svg a.cert a.svg", "stitch_picture a.rw a.cert b.txt",
-    ["stitch_picture", "", "a.svg"], ["stitch_picture", "a" * 4093 + ".lst", "a.svg"]]))
+row("usage of stitch_picture, with files there", HERE, misused("stitch_picture"), *mistaken(
+    ("stitch_picture a.lst", "a.lst: needs the name of a picture"), ("stitch_picture a.lst b.txt", "b.txt: needs the ending .svg"),
+    ("stitch_picture a.lst B.SVG", "B.SVG: needs the ending .svg"), ("stitch_picture a.lst b.svg 10", "10: needs the ending .svg"),
+    ("stitch_picture a.lst b.svg 0 10", "0: from 1 to 100000"), ("stitch_picture a.lst b.svg 10 0", "0: from 1 to 100000"),
+    ("stitch_picture a.lst b.svg 100001 10", "100001: from 1 to 100000"),
+    ("stitch_picture a.lst b.svg 10 100001", "100001: from 1 to 100000"),
+    ("stitch_picture a.lst b.svg x 10", "x: from 1 to 100000"), ("stitch_picture a.lst b.svg 10 10 11", "11: not understood"),
+    ("stitch_picture a.svg a.svg", "a.svg: is an input"), ("stitch_picture a.rw a.svg 10 10", "a.rw: no format has this ending"),
+    ("stitch_picture a.rw a.svg a.svg", "a.svg: is an input"), ("stitch_picture a.svg a.cert a.svg", "a.svg: is an input"),
+    ("stitch_picture a.rw a.cert b.txt", "b.txt: needs the ending .svg"),
+    (["stitch_picture", "", "a.svg"], ": not a file name"),
+    (["stitch_picture", "a" * 4093 + ".lst", "a.svg"], "a" * 200 + ": not a file name")),
+    done("stitch_picture --help", USAGE["stitch_picture"]), done("stitch_picture --version", "stitch_picture 0.4.0\n"))
 
-row("usage of stitch_drawing, with files there", HERE, *map(misused, [
-    "stitch_drawing", "stitch_drawing frob a.rw", "stitch_drawing look", "stitch_drawing look a.rw 101",
-    "stitch_drawing look a.rw -1", "stitch_drawing look a.rw x", "stitch_drawing look a.rw 1 1", "stitch_drawing snap 2 a.rw",
-    "stitch_drawing snap a.rw b.rw", "stitch_drawing snap 101 a.rw b.rw", "stitch_drawing snap -1 a.rw b.rw",
-    "stitch_drawing snap 2 a.rw a.rw", "stitch_drawing snap 2 a.rw b.rw b.lst", "stitch_drawing space a.rw",
-    "stitch_drawing space a.rw a.rw", "stitch_drawing space a.rw b.rw b.lst", "stitch_drawing edit a.rw b.rw",
-    "stitch_drawing edit a.rw a.rw turn=1", "stitch_drawing edit a.rw b.rw turn=4", "stitch_drawing edit a.rw b.rw mirror=z",
-    "stitch_drawing edit a.rw b.rw shift=60001,0", "stitch_drawing edit a.rw b.rw thread=1,2",
-    "stitch_drawing edit a.rw b.rw step=0", "stitch_drawing edit a.rw b.rw step=2048",
-    "stitch_drawing edit a.rw b.rw order=0,1", "stitch_drawing edit a.rw b.rw order=1,1025",
-    "stitch_drawing edit a.rw b.rw order=1", "stitch_drawing edit a.rw b.rw start=30001,0",
-    "stitch_drawing edit a.rw b.rw end=0,-30001", "stitch_drawing edit a.rw b.rw start=1",
-    "stitch_drawing edit a.rw b.rw centre=1", "stitch_drawing edit a.rw b.rw centre frob",
-    ["stitch_drawing", "look", ""], ["stitch_drawing", "look", "a" * 4097]]))
+row("usage of stitch_drawing, with files there", HERE, misused("stitch_drawing"), *mistaken(
+    ("stitch_drawing frob a.rw", "frob: not a command"), ("stitch_drawing look", "look: needs a file"),
+    ("stitch_drawing look a.rw 101", "101: from 0 to 100"), ("stitch_drawing look a.rw -1", "-1: from 0 to 100"),
+    ("stitch_drawing look a.rw x", "x: from 0 to 100"), ("stitch_drawing look a.rw 1 2", "2: not understood"),
+    ("stitch_drawing snap", "snap: needs a gap"), ("stitch_drawing snap 2 a.rw", "a.rw: needs a file"),
+    ("stitch_drawing snap a.rw b.rw", "a.rw: from 0 to 100"), ("stitch_drawing snap 101 a.rw b.rw", "101: from 0 to 100"),
+    ("stitch_drawing snap -1 a.rw b.rw", "-1: from 0 to 100"), ("stitch_drawing snap 2 a.rw a.rw", "a.rw: is the input"),
+    ("stitch_drawing snap 2 a.rw b.rw b.lst", "b.lst: not understood"), ("stitch_drawing space a.rw", "a.rw: needs a file"),
+    ("stitch_drawing space a.rw a.rw", "a.rw: is the input"), ("stitch_drawing space a.rw b.rw b.lst", "b.lst: not understood"),
+    ("stitch_drawing edit a.rw b.rw", "b.rw: needs an edit"), ("stitch_drawing edit a.rw a.rw turn=1", "a.rw: is the input"),
+    *[(f"stitch_drawing edit a.rw b.rw {edit}", f"{edit}: not an edit") for edit in (
+        "turn=4", "mirror=z", "shift=60001,0", "thread=1,2", "step=0", "step=2048", "order=0,1", "order=1,1025", "order=1",
+        "start=30001,0", "end=0,-30001", "start=1", "centre=1")],
+    ("stitch_drawing edit a.rw b.rw centre frob", "frob: not an edit"), ("stitch_drawing --help a.rw", "a.rw: not understood"),
+    (["stitch_drawing", "look", ""], ": not a file name"), (["stitch_drawing", "look", "a" * 4097], "a" * 200 + ": not a file name")),
+    done("stitch_drawing --help", USAGE["stitch_drawing"]), done("stitch_drawing --version", "stitch_drawing 0.4.0\n"))
+
+row("usage of stitch_design, with files there", HERE, misused("stitch_design"), *mistaken(
+    ("stitch_design frob a.lst", "frob: not a command"), ("stitch_design look", "look: needs a file"),
+    ("stitch_design look a.rw", "a.rw: no format has this ending"), ("stitch_design pass b.txt", "b.txt: no format has this ending"),
+    ("stitch_design look a.lst strt=1", "strt=1: not a limit"), ("stitch_design pass a.lst short=-1", "short=-1: from 0 to 1000"),
+    ("stitch_design compare a.lst", "a.lst: needs a file"), ("stitch_design compare a.lst b.lst -t", "-t: not understood"),
+    ("stitch_design threads a.lst b.lst", "b.lst: not understood"), ("stitch_design edit", "edit: needs a file"),
+    ("stitch_design edit a.lst", "a.lst: needs a file"), ("stitch_design edit a.lst b.dst", "b.dst: needs an edit"),
+    ("stitch_design edit a.lst a.lst tie", "a.lst: is the input"), ("stitch_design edit a.lst b.txt tie", "b.txt: no format has this ending"),
+    ("stitch_design edit b.txt b.lst tie", "b.txt: no format has this ending"),
+    *[(f"stitch_design edit a.lst b.dst {edit}", f"{edit}: not an edit") for edit in (
+        "strt=1", "turn=4", "mirror=z", "thread=0,1", "shift=60001,0", "bare=1", "centre=", "drop_empty", "cut", "carry=5", "=7")],
+    *[(f"stitch_design edit a.lst b.dst tie {key}={number}", f"{key}={number}: from {least} to {most}")
+      for key, least, most in (("tie", 2, 20), ("cut", 0, 60000), ("float", 1, 60000), ("merge", 1, 100), ("bean", 1, 10),
+                               ("scale", 1, 1000)) for number in (least - 1, most + 1, "x", "")],
+    ("stitch_design edit a.lst b.dst name=seventeen_letters", "name=seventeen_letters: at most 16 printable characters"),
+    (["stitch_design", "edit", "a.lst", "b.dst", "name=a\tb"], "name=a\tb: at most 16 printable characters"),
+    (["stitch_design", "edit", "", "b.dst", "tie"], ": not a file name"), (["stitch_design", "edit", "a.lst", "", "tie"], ": not a file name"),
+    (["stitch_design", "w" * 201], "w" * 200 + ": not a command"), (["stitch_design", "look", "a" * 4097], "a" * 200 + ": not a file name")),
+    done("stitch_design --help", USAGE["stitch_design"]), done("stitch_design --version", "stitch_design 0.4.0\n"))
 
 
 # ---- inputs that are missing, folders or too long ----
@@ -462,6 +505,86 @@ row("edits that are refused", {"a.lst": lst("block 1", *path(0, 0, 10, 0), "trim
 row("hoops", {"a.lst": lst("block 1", *path(0, 0, 100, 0, 100, 200))},
     done("stitch hoop a.lst 100 200", "fits upright\n"), done("stitch hoop a.lst 200 100", "fits turned\n"),
     refused("stitch hoop a.lst 50 60", "too large by 50 140"), refused("stitch hoop a.lst 100 199", "too large by 0 1"))
+
+
+# ---- places, differences and edits of designs ----
+
+SHOP = ["block 5", *path(0, 0, 30, 0, 60, 0), "trim", "needle 99 0", "float 160 0", "block 7", "block 9",
+        *path(0, 12, 0, 14, 0, 40)]
+SHOP_REPORT = "needles 8 trims 1 stops 2\n"
+# Each thread of SHOP begins and ends with two needles on its stitch there, at most 0.7 mm away, and back.
+TIED = ["block 5", *path(0, 0, 7, 0, 0, 0, 7, 0, 0, 0, 30, 0, 60, 0, 53, 0, 60, 0, 53, 0, 60, 0), "trim",
+        *path(99, 0, 106, 0, 99, 0, 106, 0, 99, 0), "float 160 0", *path(153, 0, 160, 0, 153, 0, 160, 0), "block 7",
+        "block 9", *path(0, 12, 0, 14, 0, 12, 0, 14, 0, 12, 0, 14, 0, 40, 0, 33, 0, 40, 0, 33, 0, 40)]
+TIED_REPORT = "needles 32 trims 1 stops 2\n"
+
+row("places of designs", {"a.lst": lst(*SHOP), "b.lst": lst("block 1", *path(0, 0, 0, 1, 99, 0, 1, 0, 0, 0)),
+                          "c.lst": lst("block 1"), "d.exp": exp("block 1", "needle 0 0")[:2] + bytes.fromhex("8004640080010000")},
+    refused("stitch_design pass a.lst", "a.lst: piece 1: not tied at its start"),
+    refused("stitch_design pass b.lst short=1 long=0", "b.lst: piece 1: not tied at its end"),
+    refused("stitch_design pass a.lst tie=0", "a.lst: command 7: float of 61 without a trim"),
+    refused("stitch_design pass a.lst tie=0 float=61", "a.lst: block 2: no needle"),
+    refused("stitch_design pass b.lst tie=0", "b.lst: command 2: stitch of 1"),
+    refused("stitch_design pass b.lst tie=0 short=0 long=0 hole=3", "b.lst: command 1: 4 needles in one hole"),
+    refused("stitch_design pass c.lst", "c.lst: no needle at all"),
+    refused("stitch_design pass d.exp tie=0", "d.exp: stop 1: the frame moves by 100"),
+    done("stitch_design look a.lst tie=0 float=0", text(
+        "size 160 40", "origin 0 0", "block 1 thread 5 Red needles 5 length 121 shortest 30 longest 30",
+        "block 2 thread 7 Magenta needles 0 length 0 shortest 0 longest 0",
+        "block 3 thread 9 Lilac needles 3 length 28 shortest 2 longest 26",
+        "block 2: no needle", "command 11: stitch of 2", "places 2")),
+    done("stitch_design threads a.lst", text(
+        "block 1 thread 5 Red #ed171f needles 5 length 121", "block 2 thread 7 Magenta #913697 needles 0 length 0",
+        "block 3 thread 9 Lilac #915fac needles 3 length 28")))
+
+row("differences of designs", {
+    "a.lst": lst(*SHOP), "a.exp": exp(*SHOP), "b.lst": lst(*SHOP, label="other"), "c.lst": lst(*SHOP[:3], "trim", *SHOP[5:]),
+    "d.lst": lst(*SHOP[:6], "needle 160 0", *SHOP[7:]), "e.lst": lst(*SHOP[:-1]), "f.lst": lst(*SHOP[:6], "block 7"),
+    "g.lst": lst("block 5", *SHOP[1:7], "block 8", *SHOP[8:])},
+    done("stitch_design compare a.lst b.lst --threads", ""), done("stitch_design compare a.lst a.exp", ""),
+    refused("stitch_design compare a.lst c.lst", "act 3: needle 60 0, trim"),
+    refused("stitch_design compare a.lst d.lst", "act 6: float 160 0, needle 160 0"),
+    refused("stitch_design compare a.lst e.lst", "act 11: needle 0 40, end"),
+    refused("stitch_design compare f.lst a.lst", "act 6: stop, float 160 0"),
+    refused("stitch_design compare a.lst g.lst --threads", "block 2: thread 7, 8"))
+
+row("edits of designs", {"a.lst": lst(*SHOP)},
+    done("stitch_design edit a.lst b.lst tie", TIED_REPORT, {"b.lst": lst(*TIED)}),
+    done("stitch_design edit b.lst c.lst bare", SHOP_REPORT, {"c.lst": lst(*SHOP)}),
+    done("stitch_design edit a.lst c.pes tie", TIED_REPORT, {"c.pes": pes(*TIED)}),
+    done("stitch_design edit c.pes d.pec bare", SHOP_REPORT, {"d.pec": pec(*SHOP)}),
+    done("stitch_design compare a.lst d.pec --threads", ""),
+    done("stitch_design edit a.lst e.exp cut=60 drop-empty", "needles 8 trims 2 stops 1\n", {
+        "e.exp": exp(*SHOP[:6], "trim", "needle 160 0", *SHOP[8:])}),
+    done("stitch_design edit a.lst e.dst float=39 name=Rose", "needles 8 trims 0 stops 2\n", {
+        "e.dst": dst(*SHOP[:4], "float 99 0", *SHOP[6:], label="Rose")}),
+    done("stitch_design edit a.lst e.lst centre scale=200 turn=2 thread=3,1 shift=1,0 mirror=y", SHOP_REPORT, {
+        "e.lst": lst("block 5", *path(161, -40, 101, -40, 41, -40), "trim", "needle -37 -40", "float -159 -40", "block 7",
+                     "block 1", *path(161, -16, 161, -12, 161, 40))}))
+
+row("edits of designs that are refused", {"a.lst": lst(*SHOP), "far.lst": lst("block 1", *path(29900, 0, 30000, 0)),
+                                          "full.exp": bytes(2 * MILLION)},
+    refused("stitch_design edit far.lst b.lst turn=0 shift=1,0", "far.lst: edit 2: command 2 moved out of range"),
+    refused("stitch_design edit far.lst b.lst scale=200", "far.lst: edit 1: command 1 moved out of range"),
+    refused("stitch_design edit a.lst b.lst thread=4,1", "a.lst: edit 1: no block 4, there are 3"),
+    refused("stitch_design edit full.exp b.lst name=full tie", "full.exp: edit 2: more than 1000000 commands"),
+    refused("stitch_design edit a.lst b.dst scale=900", "b.dst: command 2: stitch longer than 121"),
+    failed("stitch_design edit a.lst none/b.lst tie", "cannot write none/b.lst"))
+
+# What is routed and tied goes to the machine, and has its certificate when it is bared.
+TIED_LINE = ["block 1", *path(0, 0, 7, 0, 0, 0, 7, 0, 0, 0, 10, 0, 20, 0, 30, 0, 40, 0, 30, 0, 20, 0, 10, 0, 0, 0,
+                              7, 0, 0, 0, 7, 0, 0, 0), "trim"]
+row("a routed design, tied and bared", {"a.rw": LINE},
+    done("stitch double a.rw b.dst b.cert", text("block 1 piece 1 lines 1 cost 4 penetrations 9", "pieces 1 penetrations 9"),
+         {"b.dst": dst(*LINE_ACTS), "b.cert": cert("piece 4", "walk 1 -1")}),
+    done("stitch route a.rw c.dst c.cert",
+         text("block 1 piece 1 lines 1 cost 4 retraced 4 penetrations 9", "pieces 1 penetrations 9"),
+         {"c.dst": dst(*LINE_ACTS), "c.cert": LINE_CERT}),
+    refused("stitch_design pass c.dst", "c.dst: piece 1: not tied at its end"),
+    done("stitch_design edit c.dst d.exp tie", "needles 17 trims 1 stops 0\n", {"d.exp": exp(*TIED_LINE)}),
+    done("stitch_design pass d.exp hole=8", ""),
+    done("stitch_design edit d.exp e.pes bare", "needles 9 trims 1 stops 0\n", {"e.pes": pes(*LINE_ACTS)}),
+    done("stitch check a.rw e.pes c.cert", "yes\n"), done("stitch_design compare c.dst e.pes", ""))
 
 
 # ---- steps above a limit ----
@@ -894,14 +1017,17 @@ row("outputs in a folder that isn't there", {"a.rw": LINE, "a.lst": LINE_LIST, "
     failed("stitch_picture a.rw a.cert none/b.svg", "cannot write none/b.svg"),
     failed("stitch_drawing snap 2 a.rw none/b.rw", "cannot write none/b.rw"),
     failed("stitch_drawing space a.rw none/b.rw", "cannot write none/b.rw"),
-    failed("stitch_drawing edit a.rw none/b.rw turn=1", "cannot write none/b.rw"))
+    failed("stitch_drawing edit a.rw none/b.rw turn=1", "cannot write none/b.rw"),
+    failed("stitch_design edit a.lst none/b.exp tie", "cannot write none/b.exp"))
 
 LONG = "a" * 4092
 row("names of 4096 bytes", {"a.lst": LINE_LIST, "a.rw": LINE},
     failed(["stitch", "show", f"{LONG}.lst"], f"cannot read {LONG}.lst"),
     failed(["stitch", "convert", "a.lst", f"{LONG}.exp"], f"cannot write {LONG}.exp"),
     failed(["stitch_picture", "a.lst", f"{LONG}.svg"], f"cannot write {LONG}.svg"),
-    failed(["stitch_drawing", "look", LONG + "aaaa"], f"cannot read {LONG}aaaa"))
+    failed(["stitch_drawing", "look", LONG + "aaaa"], f"cannot read {LONG}aaaa"),
+    failed(["stitch_design", "look", f"{LONG}.lst"], f"cannot read {LONG}.lst"),
+    failed(["stitch_design", "edit", "a.lst", f"{LONG}.lst", "tie"], f"cannot write {LONG}.lst"))
 
 row("names of letters beyond ASCII", {"\u00e9 \u2603.lst": LINE_LIST},
     done(["stitch", "convert", "\u00e9 \u2603.lst", "\u00fc.exp"], "needles 9 trims 1 stops 0\n",

@@ -5,7 +5,7 @@ must be in the standard error that some row expects.
 
     .ci/rows [WORD..]   runs the rows whose title has one of the words, or all with the scan
 
-STITCH_BIN names a folder with the three programs, to be run in place of those of this repository.
+STITCH_BIN names a folder with the four programs, to be run in place of those of this repository.
 """
 import os
 import re
@@ -146,8 +146,11 @@ class Rows:
 
 
 # The crates whose sources have the texts of refusals.
-SCANNED = ("program_texts", "program_shell", "program_inputs", "route_texts", "stitch_cli", "picture_commands",
-           "drawing_commands")
+SCANNED = ("program_texts", "program_shell", "program_inputs", "route_texts", "stitch_cli", "companion_words",
+           "picture_commands", "drawing_commands", "edited_designs", "design_commands")
+
+# A file that has a table alone: the names of threads.
+TABLES = ("design_commands/thread_names.rt",)
 
 # Literals that are no refusals, by file, with the reason.
 EXCEPTIONS = {
@@ -175,10 +178,22 @@ EXCEPTIONS = {
     "drawing_commands/snap_texts.rt": ["moved {moved} listed {listed} pieces {before} to {after}"],
     "drawing_commands/space_texts.rt": [
         "points {before} to {after} ", "cost {before} to {after} pieces {pieces}"],
+    # the line of the version
+    "companion_words/usage_text.rt": [" 0.4.0"],
+    # reports of `look` and `threads` of stitch_design, and the names of threads
+    "design_commands/look_texts.rt": [
+        "size {across} {down}", "origin 0 0", "origin {x} {y}", "block {number} thread {thread} ",
+        " needles {needles} length {length}", " shortest {shortest} longest {longest}", "places {places}"],
+    "design_commands/thread_texts.rt": ["thread {thread} ", "block {number} "],
     # words of the arguments
-    "picture_commands/words.rt": [".svg"],
     "drawing_commands/drawing_edit_words.rt": ["centre", "step", "order", "start", "end"],
-    "drawing_commands/requests.rt": ["look", "snap", "space", "edit"],
+    "picture_commands/words.rt": [".svg", "--help", "--version"],
+    "drawing_commands/requests.rt": ["look", "snap", "space", "edit", "--help", "--version"],
+    "design_commands/requests.rt": ["look", "pass", "edit", "compare", "threads", "--threads", "--help", "--version"],
+    "design_commands/limit_words.rt": ["short", "long", "float", "tie", "hole"],
+    "edited_designs/edit_arguments.rt": ["tie", "bare", "centre", "drop-empty", "name"],
+    "edited_designs/edit_mistakes.rt": ["name"],
+    "edited_designs/edit_keys.rt": ["tie", "cut", "float", "merge", "bean", "scale"],
     # A fault of memory isn't described by these: callers end with status 4 before.
     "program_texts/design_texts.rt": ["out of memory"],
     "program_texts/drawing_texts.rt": ["out of memory"],
@@ -212,6 +227,8 @@ def unsaid_literals(said):
         folder = os.path.join(TOP, "crates", crate, "src")
         for name in sorted(os.listdir(folder)):
             place = f"{crate}/{name}"
+            if place in TABLES:
+                continue
             left = set(EXCEPTIONS.get(place, []))
             for literal in literals_of(open(os.path.join(folder, name), encoding="utf-8").read()):
                 if literal.rstrip("\n") in EXCEPTIONS.get(place, []):

@@ -5,6 +5,10 @@ _stitch_picture() {
     [[ ${COMP_WORDS[1]-} == *.[rR][wW] ]] && second='[cC][eE][rR][tT]|svg' third=svg
     compopt -o filenames 2>/dev/null
     COMPREPLY=()
+    if [[ $COMP_CWORD == 1 && $word == -* ]]; then
+        mapfile -t COMPREPLY < <(compgen -W '--help --version' -- "$word")
+        return
+    fi
     case $COMP_CWORD in
         1) endings='[dD][sS][tT]|[eE][xX][pP]|[pP][eE][cCsS]|[lL][sS][tT]|[rR][wW]' ;;
         2) endings=$second ;;
