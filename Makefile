@@ -41,7 +41,23 @@ install -m 644 README.md CHANGELOG.md $(1)/$(DOC)
 install -m 644 docs/*.md docs/*.svg $(1)/$(DOC)/docs
 endef
 
-.PHONY: build built cleared debian help inkscape install package tar test uninstall version
+# The WebAssembly module of the programs, if one is given.
+MODULE ?=
+
+# The library for C and Python: where it is put with its header and pkg-config file, and the kit, which has its heap.
+FOLDER ?= out/library
+KIT = $(dir $(realpath $(shell command -v rt)))..
+define pkgconfig
+prefix=$(abspath $(FOLDER))
+Name: stitch
+Description: routes, checks, shows, converts and edits embroidery files
+Version: $(VERSION)
+Cflags: -I$${prefix}/include
+Libs: -L$${prefix}/lib -lstitch
+endef
+export pkgconfig
+
+.PHONY: build built cleared debian help inkscape install library package page tar test uninstall version
 build: ## prove and build the programs, in one run of the gate
 	./build
 
@@ -54,6 +70,14 @@ inkscape: ## install the extension of Inkscape into the folder DIR, that of your
 	@[ '$(DIR)' != /extensions ] || { echo "make: there is no inkscape: name its folder of extensions, as DIR=FOLDER" >&2; exit 1; }
 	$(call extend,$(DIR)/redwork,$(abspath $(dir $(PROGRAMS))))
 
+library: ## prove the library and put it with its header and pkg-config file below FOLDER, out/library if not given
+	cd crates/stitch_c && rt lib
+	install -d "$(FOLDER)/include" "$(FOLDER)/lib/pkgconfig"
+	install -m 644 include/stitch.h "$(FOLDER)/include"
+	printf '%s\n' "$$pkgconfig" > "$(FOLDER)/lib/pkgconfig/stitch.pc"
+	$(CC) -shared -o "$(FOLDER)/lib/libstitch.so" -Wl,--whole-archive crates/stitch_c/out/libstitch_c.a \
+		-Wl,--no-whole-archive,--exclude-libs,liblibc_c.a $(KIT)/c/liblibc_c.a
+
 uninstall: ## remove what install installed
 	rm -f $(addprefix $(DESTDIR)$(PREFIX)/,$(NAMES:%=bin/%) $(NAMES:%=share/man/man1/%.1) $(NAMES:%=$(BASH)/%))
 	rm -f $(addprefix $(DESTDIR)$(PREFIX)/,$(NAMES:%=$(ZSH)/_%) $(NAMES:%=$(FISH)/%.fish))
@@ -64,6 +88,10 @@ uninstall: ## remove what install installed
 package: tar $(if $(shell command -v dpkg-deb),debian) ## write a tar file and, with dpkg-deb, a Debian package to out/, for users without the kit
 	rm -rf out/package
 	@ls out/stitch*
+
+page: ## write out/stitch.html, the page for any browser, with the module MODULE, or the one that page/wasm makes
+	$(if $(MODULE),,mkdir -p out && page/wasm out/stitch.wasm)
+	page/make $(or $(MODULE),out/stitch.wasm)
 
 test: ## run all tests: see .ci/run
 	.ci/run
