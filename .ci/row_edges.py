@@ -18,7 +18,7 @@ REPORT = "needles 9 trims 1 stops 0\n"
 DOUBLE_CERT = cert("piece 4", "walk 1 -1")
 DOUBLE_REPORT = text("block 1 piece 1 lines 1 cost 4 penetrations 9", "pieces 1 penetrations 9")
 SPACED = rw(2, "step 10", "color 1", "line 0 0 40 0")
-SPACE_REPORT = "points 2 to 2 cost 4 to 4 pieces 1\n"
+SPACE_REPORT = "points 2 to 2 stitches 4 to 4 shortest 40 to 40 longest 40 to 40 pieces 1\n"
 
 
 class Here:

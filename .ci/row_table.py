@@ -159,6 +159,7 @@ row("usage of stitch_drawing, with files there", HERE, misused("stitch_drawing")
     ("stitch_drawing snap -1 a.rw b.rw", "-1: from 0 to 100"), ("stitch_drawing snap 2 a.rw a.rw", "a.rw: is the input"),
     ("stitch_drawing snap 2 a.rw b.rw b.lst", "b.lst: not understood"), ("stitch_drawing space a.rw", "a.rw: needs a file"),
     ("stitch_drawing space a.rw a.rw", "a.rw: is the input"), ("stitch_drawing space a.rw b.rw b.lst", "b.lst: not understood"),
+    ("stitch_drawing space a.rw b.rw length=0", "length=0: from 1 to 2047"),
     ("stitch_drawing edit a.rw b.rw", "b.rw: needs an edit"), ("stitch_drawing edit a.rw a.rw turn=1", "a.rw: is the input"),
     *[(f"stitch_drawing edit a.rw b.rw {edit}", f"{edit}: not an edit") for edit in (
         "turn=4", "mirror=z", "shift=60001,0", "thread=1,2", "step=0", "step=2048", "order=0,1", "order=1,1025", "order=1",
@@ -519,9 +520,11 @@ TIED = ["block 5", *path(0, 0, 7, 0, 0, 0, 7, 0, 0, 0, 30, 0, 60, 0, 53, 0, 60, 
 TIED_REPORT = "needles 32 trims 1 stops 2\n"
 
 row("places of designs", {"a.lst": lst(*SHOP), "b.lst": lst("block 1", *path(0, 0, 0, 1, 99, 0, 1, 0, 0, 0)),
+                          "e.lst": lst("block 1", *path(0, 0, 5, 0, 0, 0, 20, 0, 40, 0, 60, 0, 80, 0, 100, 0)),
                           "c.lst": lst("block 1"), "d.exp": exp("block 1", "needle 0 0")[:2] + bytes.fromhex("8004640080010000")},
     refused("stitch_design pass a.lst", "a.lst: piece 1: not tied at its start"),
-    refused("stitch_design pass b.lst short=1 long=0", "b.lst: piece 1: not tied at its end"),
+    refused("stitch_design pass b.lst short=1 long=0", "b.lst: piece 1: not tied at its start"),
+    refused("stitch_design pass e.lst", "e.lst: piece 1: not tied at its end"),
     refused("stitch_design pass a.lst tie=0", "a.lst: command 7: float of 61 without a trim"),
     refused("stitch_design pass a.lst tie=0 float=61", "a.lst: block 2: no needle"),
     refused("stitch_design pass b.lst tie=0", "b.lst: command 2: stitch of 1"),
@@ -579,8 +582,8 @@ row("a routed design, tied and bared", {"a.rw": LINE},
          {"b.dst": dst(*LINE_ACTS), "b.cert": cert("piece 4", "walk 1 -1")}),
     done("stitch route a.rw c.dst c.cert",
          text("block 1 piece 1 lines 1 cost 4 retraced 4 penetrations 9", "pieces 1 penetrations 9"),
-         {"c.dst": dst(*LINE_ACTS), "c.cert": LINE_CERT}),
-    refused("stitch_design pass c.dst", "c.dst: piece 1: not tied at its end"),
+         {"c.dst": dst(*LINE_ACTS), "c.cert": cert("piece 4", "walk 1 -1", "cut 4 1", "cut 4 2")}),
+    refused("stitch_design pass c.dst tie=9", "c.dst: piece 1: not tied at its start"),
     done("stitch_design edit c.dst d.exp tie", "needles 17 trims 1 stops 0\n", {"d.exp": exp(*TIED_LINE)}),
     done("stitch_design pass d.exp hole=8", ""),
     done("stitch_design edit d.exp e.pes bare", "needles 9 trims 1 stops 0\n", {"e.pes": pes(*LINE_ACTS)}),
@@ -957,8 +960,23 @@ row("a snap and a look", {"a.rw": rw(3, *NEAR)},
         2, "step 20", "color 1", "line 0 0 40 1 80 0 80 80 0 80 0 0", "line 40 1 40 40")}))
 
 row("a spaced line", {"a.rw": rw(3, "step 25", "color 1", "line 0 0 6 0 12 1 18 1 24 1 30 2 36 3 42 4 48 5")},
-    done("stitch_drawing space a.rw b.rw", "points 9 to 3 cost 8 to 2 pieces 1\n", {"b.rw": rw(
-        2, "step 25", "color 1", "line 0 0 24 1 48 5")}))
+    done("stitch_drawing space a.rw b.rw",
+         "points 9 to 3 stitches 8 to 2 shortest 6 to 24 longest 6 to 24 pieces 1\n",
+         {"b.rw": rw(2, "step 25", "color 1", "line 0 0 24 1 48 5")}))
+
+# The star has four odd junctions. Its two longest lines are sewn once, from tip to tip.
+row("free ends, and less travel", {
+    "a.rw": rw(2, "step 10", "color 1", "line 0 0 30 0", "line 0 0 0 20", "line 0 0 -20 0", "line 0 0 0 -10"),
+    "b.rw": rw(2, "step 10", "color 1", "line 0 0 30 0", "line 200 0 210 0", "line 50 0 60 0"),
+    "c.rw": rw(1, "step 20", "color 1", "line 0 0 8 0 16 0", "line 8 0 8 5")},
+    done("stitch_drawing free a.rw d.rw", text("block 1 piece 1 start -20 0 end 30 0 penetrations 17 to 12",
+                                               "penetrations 17 to 12 pieces 1"),
+         {"d.rw": rw(3, "step 10", "color 1", "line 0 0 30 0", "line 0 0 0 20", "line 0 0 -20 0", "line 0 0 0 -10",
+                     "start -20 0", "end 30 0")}),
+    done("stitch_drawing near b.rw e.rw", "travel 350 to 170 pieces 3\n",
+         {"e.rw": rw(3, "step 10", "color 1", "line 200 0 210 0", "line 50 0 60 0", "line 0 0 30 0", "start 200 0",
+                     "start 60 0", "start 30 0")}),
+    refused("stitch_drawing near c.rw e.rw", "c.rw: redwork 1 can't be kept: migrate it first"))
 
 
 # ---- sample drawings ----
@@ -1041,7 +1059,8 @@ row("outputs in other folders", {"a.rw": LINE, "a.lst": LINE_LIST, "b/old.exp": 
                                                               "pieces 1 penetrations 9"),
          {"c/e.LST": LINE_LIST, "c/d/f": cert("piece 4", "walk 1 -1")}),
     done("stitch_picture c/e.LST b/c.svg", "", {"b/c.svg": A_PICTURE}),
-    done("stitch_drawing space a.rw c/d/old", "points 2 to 2 cost 4 to 4 pieces 1\n",
+    done("stitch_drawing space a.rw c/d/old",
+         "points 2 to 2 stitches 4 to 4 shortest 40 to 40 longest 40 to 40 pieces 1\n",
          {"c/d/old": rw(2, "step 10", "color 1", "line 0 0 40 0")}))
 
 row("outputs that are folders", {"a.rw": LINE, "a.lst": LINE_LIST, "b.exp": Folder(), "b.svg": Folder(), "b.rw": Folder()},

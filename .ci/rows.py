@@ -169,7 +169,7 @@ EXCEPTIONS = {
     # reports of `check` and `hoop`
     "stitch_cli/checking.rt": ["yes"],
     "stitch_cli/hooping.rt": ["fits upright", "fits turned"],
-    # reports of `look`, `snap` and `space`
+    # reports of `look`, `snap`, `space`, `free` and `near`
     "drawing_commands/look_texts.rt": [
         "pieces {pieces} places {places}", " thread {thread} travel {travel}",
         " stitches {stitches} shortest {shortest} longest {longest} short {short}", "block {block} piece {number}",
@@ -177,7 +177,11 @@ EXCEPTIONS = {
         "loose end", "unlisted meeting", "crossing", "repeated segment", "short point spacing"],
     "drawing_commands/snap_texts.rt": ["moved {moved} listed {listed} pieces {before} to {after}"],
     "drawing_commands/space_texts.rt": [
-        "points {before} to {after} ", "cost {before} to {after} pieces {pieces}"],
+        "points {points} to {less} stitches {stitches} to {fewer} ",
+        "shortest {short} to {shorter} longest {long} to {longer} "],
+    "drawing_commands/free_texts.rt": [
+        " penetrations {closed} to {cost}", " odd {odd} left", "penetrations {before} to {after} pieces {pieces}"],
+    "drawing_commands/near_files.rt": ["travel {before} to {after} pieces {pieces}"],
     # the line of the version
     "companion_words/usage_text.rt": [" 0.4.0"],
     # reports of `look` and `threads` of stitch_design, and the names of threads
@@ -188,7 +192,8 @@ EXCEPTIONS = {
     # words of the arguments
     "drawing_commands/drawing_edit_words.rt": ["centre", "step", "order", "start", "end"],
     "picture_commands/words.rt": [".svg", "--help", "--version"],
-    "drawing_commands/requests.rt": ["look", "snap", "space", "edit", "--help", "--version"],
+    "drawing_commands/requests.rt": ["look", "snap", "space", "free", "near", "edit", "--help", "--version"],
+    "drawing_commands/space_words.rt": ["length", "leeway"],
     "design_commands/requests.rt": ["look", "pass", "edit", "compare", "threads", "--threads", "--help", "--version"],
     "design_commands/limit_words.rt": ["short", "long", "float", "tie", "hole"],
     "edited_designs/edit_arguments.rt": ["tie", "bare", "centre", "drop-empty", "name"],
