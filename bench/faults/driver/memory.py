@@ -97,7 +97,7 @@ def growths(tally, program, folder, made, shim, place):
 
 
 def real_growths(tally, program, folder, made, shim, place):
-    """Each growth refused in turn, over real files: memory for making a file beside is the store's."""
+    """Each growth refused in turn, over real files: memory for a file beside, and for noting a used file, is the store's."""
     tally.begin("growths of the program")
     for command in rows.COMMANDS:
         before = before_of(command, True)
@@ -111,7 +111,7 @@ def real_growths(tally, program, folder, made, shim, place):
             left = playing.play(folder, args, command.outputs, env)
             is_right = (wanted.is_end(command, left, made, before)
                         or wanted.is_memory(left, before)
-                        or (left.err.startswith(b"stitch: cannot write ")
+                        or (left.err.startswith((b"stitch: cannot read ", b"stitch: cannot write "))
                             and wanted.is_fault(command, left, made, before)))
             is_right = is_right and playing.is_clean(folder, files)
             tally.see(f"{command.words}: growth {number}", is_right, left)

@@ -14,7 +14,7 @@ use crate::writing::write_all;
 use arrayvec::ArrayVec;
 use std::alloc::Global;
 use std::fs::{File, OpenFile};
-use std::io::{ErrorKind, Read, Seek, SeekFrom};
+use std::io::{ErrorKind, Read, Seek, SeekFrom, Write};
 use std::marker::Model;
 use std::rt::Files;
 use std::{fs, io};
@@ -163,9 +163,22 @@ fn begin_next<R: Files>(
     settle(rt, begun)?;
     refuse_second_name(rt, used, name)?;
     let new = begin(alloc, rt, name)?;
-    used.note(name, &new.metadata()?)?;
+    let noted = note_made(used, name, &new);
+    if noted.is_err() {
+        new.forget(rt);
+        return noted;
+    }
     *begun = Some(new);
     Ok(())
+}
+
+/// Notes that a file was made under a name.
+fn note_made<F: Read + Write + Seek + OpenFile + Drop>(
+    used: &mut UsedFiles,
+    name: &str,
+    new: &NewFile<F>,
+) -> io::Result<()> {
+    used.note(name, &new.metadata()?)
 }
 
 /// Fails if the named file is there and was read or made under another name.

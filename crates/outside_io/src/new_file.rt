@@ -169,7 +169,7 @@ impl<F: io::Read + io::Write + io::Seek + OpenFile + Drop> NewFile<F> {
     }
 
     /// Removes the new file that is beside the old one.
-    fn forget<R: Files>(self, rt: &R) {
+    pub(crate) fn forget<R: Files>(self, rt: &R) {
         if let Some(to) = &self.to {
             let _ = fs::remove_file(rt, to.beside.as_str());
         }
