@@ -6,3 +6,6 @@ mod CrowdLemmas
 mod ReportLemmas
 mod ReviewLemmas
 mod PlaceFacts
+mod SamenessLemmas
+mod ThreadLemmas
+mod DifferenceFacts

@@ -9,6 +9,9 @@ pub mod OpenBlocks
 pub mod NeedleKeys
 pub mod KeyWindows
 pub mod Crowds
--- Read this one first: the places of a design that were probably not meant.
+-- Read this one first for a review: the places of a design that were probably not meant.
 pub mod Places
 pub mod KnownReviews
+-- Read this one first for a comparison: the first difference of two designs.
+pub mod Differences
+pub mod Sameness

@@ -1,9 +1,12 @@
 //! What a design has before it is sewn: for each block its needles and its thread, and the places that were probably not
 //! meant: stitches that are too short or too long, floats, needles in one hole, threads that aren't tied, blocks without a
-//! needle, stops at which the frame moves.
+//! needle, stops at which the frame moves. And the first difference of two designs: of their acts, or of the threads of
+//! their blocks.
 #![tactic(auto)]
 
+mod acts_compared;
 mod crowds;
+mod difference;
 mod frame_moves;
 mod key_windows;
 mod limits;
@@ -13,13 +16,19 @@ mod open_block;
 mod place;
 mod reported_holes;
 mod reviewing;
+mod sameness_law;
 mod sewn;
 mod sewn_blocks;
 mod straight_lengths;
+mod threads_compared;
 mod ties;
 
+pub use acts_compared::act_difference;
+pub use difference::{ActDifference, ThreadDifference};
 pub use limits::ReviewLimits;
 pub use open_block::{BlockSummaries, BlockSummary};
 pub use place::{DesignPlace, DesignPlaces};
 pub use reviewing::review;
+pub use sameness_law::no_difference_is_sameness;
 pub use sewn_blocks::block_summaries;
+pub use threads_compared::thread_difference;

@@ -7,8 +7,8 @@ use Rattle.design_model.specs.Acts.{acts_of, acts_without_numbers}
 use Rattle.design_model.specs.Counts.{counts_of}
 use Rattle.design_model.specs.Designs.{DesignValue, thread_of}
 use Rattle.design_model.specs.Points.{is_same_point}
-use Rattle.design_differences.specs.declared.difference.ActDifference.{ActDifference}
-use Rattle.design_differences.specs.declared.difference.ThreadDifference.{ThreadDifference}
+use Rattle.design_review.specs.declared.difference.ActDifference.{ActDifference}
+use Rattle.design_review.specs.declared.difference.ThreadDifference.{ThreadDifference}
 
 -- The test whether two truth values are the same.
 abbrev pub is_same_truth : Bool → Bool → Bool

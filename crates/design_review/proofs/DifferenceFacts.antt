@@ -5,7 +5,7 @@ use Rattle.design_model.specs.declared.command.Command.{Command}
 use Rattle.design_model.specs.declared.command.Command.TheVariants.{Stitch, Jump, Trim, Stop}
 use Rattle.design_model.specs.declared.point.Point.{Point}
 use Rattle.design_model.specs.Designs.{DesignValue}
-use Rattle.design_differences.specs.Differences.{act_difference_of, thread_difference_of}
+use Rattle.design_review.specs.Differences.{act_difference_of, thread_difference_of}
 
 abbrev at : ℕ → ℕ → Point
 at x y = record { x = pos x; y = pos y }

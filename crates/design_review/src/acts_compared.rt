@@ -1,4 +1,4 @@
-ghost use Rattle.design_differences.specs.Differences.{act_difference_from, act_difference_of, is_same_act};
+ghost use Rattle.design_review.specs.Differences.{act_difference_from, act_difference_of, is_same_act};
 ghost use Rattle.design_model.specs.Acts.{acts_without_numbers};
 ghost use Rattle.design_model.specs.declared.design.TheConstants.{MAX_COMMANDS};
 ghost use Rattle.std.specs.Prelude.{◌≡◌, ◌≤◌, ◌⊎◌, IfOk, length};

@@ -2,7 +2,7 @@
 use Rattle.std.specs.Prelude.{◌≡◌, ◌↔◌, None}
 use Rattle.design_model.specs.Acts.{acts_of, acts_without_numbers}
 use Rattle.design_model.specs.Designs.{DesignValue}
-use Rattle.design_differences.specs.Differences.{act_difference_of}
+use Rattle.design_review.specs.Differences.{act_difference_of}
 
 -- Two designs have no difference of acts exactly where their acts are the same.
 abbrev pub NoDifferenceIsSameness : Type 0

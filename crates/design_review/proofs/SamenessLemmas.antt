@@ -7,8 +7,8 @@ use Rattle.design_model.specs.declared.act.Act.TheVariants as act
 use Rattle.design_model.specs.Acts.{acts_of, acts_without_numbers}
 use Rattle.design_model.specs.Points.{is_same_point}
 use Rattle.design_model.proofs.CallerLemmas.{point_itself, same_is}
-use Rattle.design_differences.specs.Differences.{act_difference_at, act_difference_from, is_same_act, is_same_truth}
-use Rattle.design_differences.specs.Sameness.{NoDifferenceIsSameness}
+use Rattle.design_review.specs.Differences.{act_difference_at, act_difference_from, is_same_act, is_same_truth}
+use Rattle.design_review.specs.Sameness.{NoDifferenceIsSameness}
 
 same_truth : (a b : Bool) → is_same_truth a b ≡ true → a ≡ b
 same_truth true b is = sym is

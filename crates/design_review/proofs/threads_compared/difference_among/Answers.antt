@@ -1,6 +1,6 @@
 use Rattle.std.proofs.Common.{◌∙◌, sym, arith}
-use Rattle.design_differences.proofs.ThreadLemmas.{next_block}
-use Rattle.design_differences.proofs.threads_compared.difference_among.Goals as goal
+use Rattle.design_review.proofs.ThreadLemmas.{next_block}
+use Rattle.design_review.proofs.threads_compared.difference_among.Goals as goal
 
 pub loop-block-preserved : goal.loop-block-preserved
 loop-block-preserved c = record {

@@ -1,4 +1,4 @@
-ghost use Rattle.design_differences.specs.Differences.{thread_difference_from, thread_difference_of};
+ghost use Rattle.design_review.specs.Differences.{thread_difference_from, thread_difference_of};
 ghost use Rattle.std.specs.Prelude.{◌≡◌, ◌≤◌, ◌^◌};
 
 use crate::difference::ThreadDifference;

@@ -1,7 +1,7 @@
 -- Threads of blocks that are compared one by one.
 use Rattle.std.proofs.Common.{◌≡◌, ℕ, suc, ◌+◌, ◌-◌, ◌<◌, refl, arith}
 use Rattle.design_model.specs.Designs.{DesignValue, thread_of}
-use Rattle.design_differences.specs.Differences.{thread_difference_from}
+use Rattle.design_review.specs.Differences.{thread_difference_from}
 use Rattle.design_model.proofs.ListLemmas.{eq_self}
 
 -- where the threads of a block are the same, the first difference is that of the others

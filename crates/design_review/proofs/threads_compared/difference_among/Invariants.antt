@@ -1,6 +1,6 @@
 use Rattle.std.proofs.Common.{◌≡◌, ◌≤◌, ◌-◌}
-use Rattle.design_differences.specs.Differences.{thread_difference_from}
-use Rattle.design_differences.proofs.threads_compared.difference_among.Given as goal
+use Rattle.design_review.specs.Differences.{thread_difference_from}
+use Rattle.design_review.proofs.threads_compared.difference_among.Given as goal
 
 -- no difference so far, and the first one is that of the blocks that are left
 abbrev pub invariant-loop-block : goal.invariant-loop-block

@@ -1,7 +1,7 @@
 use Rattle.std.proofs.Common.{◌≡◌, ◌≤◌, ◌+◌, length}
 use Rattle.design_model.specs.Acts.{acts_without_numbers}
-use Rattle.design_differences.specs.Differences.{act_difference_from}
-use Rattle.design_differences.proofs.acts_compared.difference_in.Given as goal
+use Rattle.design_review.specs.Differences.{act_difference_from}
+use Rattle.design_review.proofs.acts_compared.difference_in.Given as goal
 
 -- no difference so far, and the first one is that of the acts that are left
 abbrev pub invariant-loop-a : goal.invariant-loop-a

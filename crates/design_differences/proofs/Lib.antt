@@ -1,3 +1,0 @@
-mod SamenessLemmas
-mod ThreadLemmas
-mod DifferenceFacts
