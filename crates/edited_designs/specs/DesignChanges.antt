@@ -8,7 +8,7 @@ use Rattle.edited_designs.specs.declared.design_edit.DesignEdit.{DesignEdit}
 use Rattle.edited_designs.specs.declared.design_edit.DesignEdit.TheVariants as edit
 use Rattle.sewing_edits.specs.declared.float_cuts.TheConstants.{MAX_REACH}
 use Rattle.sewing_edits.specs.declared.scales.TheConstants.{MAX_SCALE}
-use Rattle.thread_ties.specs.declared.tie_points.TheConstants.{MIN_TIE, MAX_TIE}
+use Rattle.sewing_edits.specs.declared.tie_points.TheConstants.{MIN_TIE, MAX_TIE}
 
 -- An edit of a design. `moved`: by a motion. `threaded`: another thread for a block, numbered from
 -- 1. `tied`, `bared`: ties at the ends of threads, by a reach, and none. `centred`. `cut`: long

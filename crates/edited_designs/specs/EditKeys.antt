@@ -7,7 +7,7 @@ use Rattle.edited_designs.specs.DesignChanges.{DesignChange, beaned, carried, cu
 use Rattle.sewing_edits.specs.declared.beans.TheConstants.{MAX_BEAN}
 use Rattle.sewing_edits.specs.declared.float_cuts.TheConstants.{MAX_REACH}
 use Rattle.sewing_edits.specs.declared.scales.TheConstants.{MAX_SCALE}
-use Rattle.thread_ties.specs.declared.tie_points.TheConstants.{MIN_TIE, MAX_TIE}
+use Rattle.sewing_edits.specs.declared.tie_points.TheConstants.{MIN_TIE, MAX_TIE}
 
 -- The key of that name, if there is one.
 abbrev pub named_key : List ℕ → Option EditKey

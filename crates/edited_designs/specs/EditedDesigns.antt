@@ -22,7 +22,7 @@ use Rattle.sewing_edits.specs.Merges.{merged_acts}
 use Rattle.sewing_edits.specs.Scales.{scale_point}
 use Rattle.design_edits.specs.Moves.{with_mapped_points}
 use Rattle.step_splitter.specs.Refits.{commands_of_acts}
-use Rattle.thread_ties.specs.ThreadTies.{bared_acts, tied_acts}
+use Rattle.sewing_edits.specs.ThreadTies.{bared_acts, tied_acts}
 
 -- A fault is out of memory.
 abbrev pub design_fault_is_out_of_memory : DesignFault → Bool

@@ -18,9 +18,8 @@ use design_edits::{EditFault, Motion, mirror, recolour, shift, turn};
 use design_model::Design;
 use design_rewrites::RewriteFault;
 use format_traits::read_label;
-use sewing_edits::{ScaleFault, bean, carry, centre, cut, drop_empty, merge, scale};
+use sewing_edits::{ScaleFault, bare, bean, carry, centre, cut, drop_empty, merge, scale, tie};
 use std::alloc::Global;
-use thread_ties::{bare, tie};
 
 /// The result of an edit.
 type Edited = Result<Design, DesignFault>;

@@ -3,8 +3,7 @@ ghost use Rattle.edited_designs.specs.EditKeys.{change_by, least_of, most_of, na
 ghost use Rattle.std.specs.Prelude.{◌≡◌, ◌≤◌};
 
 use crate::design_edit::DesignEdit;
-use sewing_edits::{MAX_BEAN, MAX_REACH, MAX_SCALE};
-use thread_ties::{MAX_TIE, MIN_TIE};
+use sewing_edits::{MAX_BEAN, MAX_REACH, MAX_SCALE, MAX_TIE, MIN_TIE};
 
 /// The reach of a tie where none is given, in tenths of a millimetre.
 pub const DEFAULT_TIE: u32 = 7;

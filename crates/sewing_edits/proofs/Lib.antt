@@ -8,3 +8,9 @@ pub mod ExtentLemmas
 pub mod BlockLemmas
 pub mod ThreadLemmas
 mod SewingFacts
+pub mod PointLemmas
+pub mod TieLemmas
+pub mod TieOrderLemmas
+pub mod NearLemmas
+pub mod PutLemmas
+mod TieFacts

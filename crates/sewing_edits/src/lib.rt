@@ -1,7 +1,8 @@
-//! Edits of what a design sews: long floats cut, short trims carried over, near needles left out, stitches sewn there and
-//! back, and designs scaled and centred.
+//! Edits of what a design sews: threads tied and bared, long floats cut, short trims carried over, near needles left out,
+//! stitches sewn there and back, and designs scaled and centred.
 #![tactic(auto)]
 
+mod bare_threads;
 mod beans;
 mod carried_trims;
 mod centres;
@@ -11,7 +12,11 @@ mod float_theorems;
 mod merges;
 mod needle_theorems;
 mod scales;
+mod tie_points;
+mod tie_theorems;
+mod tied_threads;
 
+pub use bare_threads::bare;
 pub use beans::{MAX_BEAN, bean};
 pub use carried_trims::carry;
 pub use centres::centre;
@@ -27,3 +32,9 @@ pub use needle_theorems::{
     merge_leaves_no_short_stitch, needled_blocks_stay, scales_to_nearest,
 };
 pub use scales::{MAX_SCALE, ScaleFault, scale};
+pub use tie_points::{MAX_TIE, MIN_TIE};
+pub use tie_theorems::{
+    bare_keeps_order, bare_takes_ties, bare_undoes_tie, ties_keep_order, ties_lengthen_no_stitch,
+    ties_put_needles_in,
+};
+pub use tied_threads::tie;

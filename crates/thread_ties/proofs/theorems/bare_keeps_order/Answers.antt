@@ -1,6 +1,0 @@
-use Rattle.std.proofs.Common.{None, refl, inl, arith}
-use Rattle.thread_ties.proofs.TieOrderLemmas.{order_bared}
-use Rattle.thread_ties.proofs.theorems.bare_keeps_order.Goals as goal
-
-pub returns : goal.returns
-returns c = λ acts ordered. order_bared 0 None acts (omega arith) (inl refl) ordered
