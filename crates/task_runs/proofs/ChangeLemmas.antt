@@ -4,7 +4,7 @@ use Rattle.std.proofs.lemmas.List.{append_assoc}
 use Rattle.std.proofs.lemmas.Slice.Eq.{bytes_eq-Decides}
 use Rattle.std.specs.Str.{bytes_eq}
 use Rattle.outside_io.specs.Files.{Files}
-use Rattle.task_bytes.specs.Packing.{FileValue}
+use Rattle.task_runs.specs.Packing.{FileValue}
 use Rattle.task_runs.specs.NameLists.{ListsFiles, is_listed}
 use Rattle.task_runs.specs.Replies.{EachChangeIsListed, IsAmong, changed_file, changed_files, is_given}
 use Rattle.task_runs.specs.TaskViews.{content_in}

@@ -4,3 +4,5 @@ mod OutcomeLemmas
 mod RoomLemmas
 mod RoomListLemmas
 mod StoreLemmas
+mod ReadingLemmas
+mod TaskFacts

@@ -5,8 +5,8 @@ use Rattle.program_shell.specs.declared.status.Status.{Status}
 use Rattle.program_shell.specs.RunViews.{Views}
 use Rattle.outside_io.specs.Files.{Files}
 use Rattle.outside_io.specs.MemStores.{files_of}
-use Rattle.task_bytes.specs.declared.task_fault.TaskFault.TheVariants as fault
-use Rattle.task_bytes.specs.Packing.{FileValue, ReplyValue, TaskValue, packed_reply, packed_task}
+use Rattle.task_runs.specs.declared.task_fault.TaskFault.TheVariants as fault
+use Rattle.task_runs.specs.Packing.{FileValue, ReplyValue, TaskValue, packed_reply, packed_task}
 use Rattle.task_runs.specs.NameLists.{ListsFiles, is_listed, with_name}
 use Rattle.task_runs.specs.Outcomes.{IsReply, IsReturned, IsRunReply, RunClause}
 use Rattle.task_runs.specs.Outcomes.IsReply.{ran, refused}

@@ -4,10 +4,10 @@ use Rattle.design_model.specs.OutOfMemory.{UnlessOutOfMemory}
 use Rattle.outside_io.specs.MemStores.{MemStoreValue, files_of, store_view}
 use Rattle.program_shell.specs.RunViews.{Views, views_of}
 use Rattle.program_shell.specs.declared.status.Status.{Status}
-use Rattle.task_bytes.specs.Packing.{FileValue, ReplyValue, TaskValue, packed_reply}
-use Rattle.task_bytes.specs.TaskReading.{task_of}
-use Rattle.task_bytes.specs.TaskValues.{task_is_out_of_memory}
-use Rattle.task_bytes.specs.declared.task_fault.TaskFault.{TaskFault}
+use Rattle.task_runs.specs.Packing.{FileValue, ReplyValue, TaskValue, packed_reply}
+use Rattle.task_runs.specs.TaskReading.{task_of}
+use Rattle.task_runs.specs.TaskValues.{task_is_out_of_memory}
+use Rattle.task_runs.specs.declared.task_fault.TaskFault.{TaskFault}
 use Rattle.task_runs.specs.GrowingSinks.{GrowingSinkValue, empty_growing_sink, growing_view}
 use Rattle.task_runs.specs.NameLists.{ListsFiles}
 use Rattle.task_runs.specs.Outcomes.{IsReply, IsRunReply, IsReturned, ReturnsOutcome, RunClause}

@@ -5,7 +5,7 @@ use Rattle.std.proofs.lemmas.Slice.Eq.{bytes_eq-Decides}
 use Rattle.std.specs.Str.{bytes_eq}
 use Rattle.outside_io.specs.MemEntries.{EntryValue, entry_in, file_in, with_entry, with_file}
 use Rattle.outside_io.specs.MemStores.{MemStoreValue, file_set, files_of}
-use Rattle.task_bytes.specs.Packing.{FileValue}
+use Rattle.task_runs.specs.Packing.{FileValue}
 use Rattle.task_runs.specs.TaskViews.{content_after, with_files}
 
 -- the entry of a name after one was put

@@ -7,10 +7,10 @@ use Rattle.outside_io.specs.Files.{Files}
 use Rattle.program_shell.specs.declared.status.Status.{Status}
 use Rattle.program_shell.specs.ExitCodes.{exit_number}
 use Rattle.program_shell.specs.RunViews.{Views}
-use Rattle.task_bytes.specs.declared.task_fault.TaskFault.{TaskFault}
-use Rattle.task_bytes.specs.Packing.{ReplyValue, TaskValue, packed_reply}
-use Rattle.task_bytes.specs.TaskReading.{task_of}
-use Rattle.task_bytes.specs.TaskValues.{task_is_out_of_memory}
+use Rattle.task_runs.specs.declared.task_fault.TaskFault.{TaskFault}
+use Rattle.task_runs.specs.Packing.{ReplyValue, TaskValue, packed_reply}
+use Rattle.task_runs.specs.TaskReading.{task_of}
+use Rattle.task_runs.specs.TaskValues.{task_is_out_of_memory}
 use Rattle.task_runs.specs.NameLists.{ListsFiles}
 use Rattle.task_runs.specs.Replies.{changed_files, fault_reply}
 use Rattle.task_runs.specs.TaskViews.{views_before}

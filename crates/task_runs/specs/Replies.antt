@@ -5,9 +5,9 @@ use Rattle.outside_io.specs.Files.{Files}
 use Rattle.outside_io.specs.MemStores.{MemStoreValue, files_of}
 use Rattle.program_shell.specs.ExitCodes.{exit_number}
 use Rattle.program_shell.specs.declared.status.Status.{Status}
-use Rattle.task_bytes.specs.Packing.{FileValue, ReplyValue, TaskValue}
-use Rattle.task_bytes.specs.declared.task_fault.TaskFault.{TaskFault}
-use Rattle.task_bytes.specs.declared.task_fault.TaskFault.TheVariants as fault
+use Rattle.task_runs.specs.Packing.{FileValue, ReplyValue, TaskValue}
+use Rattle.task_runs.specs.declared.task_fault.TaskFault.{TaskFault}
+use Rattle.task_runs.specs.declared.task_fault.TaskFault.TheVariants as fault
 use Rattle.task_runs.specs.GrowingSinks.{GrowingSinkValue}
 use Rattle.task_runs.specs.NameLists.{ListsFiles}
 use Rattle.task_runs.specs.TaskViews.{content_in}

@@ -4,7 +4,7 @@ use Rattle.std.specs.Prelude.{◌≡◌, ℕ, List, [], ◌∷◌, Option, Some,
 use Rattle.task_runs.specs.GrowingSinks.{empty_growing_sink, growing_view}
 use Rattle.outside_io.specs.MemStores.{MemStoreValue, empty_store, file_set, files_of, store_view}
 use Rattle.program_shell.specs.RunViews.{Views, views_of}
-use Rattle.task_bytes.specs.Packing.{FileValue}
+use Rattle.task_runs.specs.Packing.{FileValue}
 
 -- A store after these files were set, one after another.
 abbrev pub with_files : MemStoreValue → List FileValue → MemStoreValue

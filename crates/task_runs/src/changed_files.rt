@@ -1,13 +1,13 @@
 ghost use Rattle.outside_io.specs.MemStores.{files_of};
 ghost use Rattle.std.specs.Prelude.{◌≡◌, ◌∷◌, [], ◌++◌, IfOk, OnOk, map, option_map, string_bytes};
-ghost use Rattle.task_bytes.specs.TaskValues.{file_value};
+ghost use Rattle.task_runs.specs.TaskValues.{file_value};
 ghost use Rattle.task_runs.specs.Replies.{changed_file, changed_files, is_given};
 ghost use Rattle.task_runs.specs.TaskViews.{content_after, content_in};
 
 use crate::growing_store::GrowingStore;
+use crate::task::TaskFile;
 use design_model::{Items, Memory};
 use std::alloc::Global;
-use task_bytes::TaskFile;
 
 /// Returns the files of these names that weren't given so, in the order of the names.
 pub(crate) fn changed_files<'a>(

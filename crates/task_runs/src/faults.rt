@@ -1,8 +1,8 @@
 ghost use Rattle.std.specs.Prelude.{◌≡◌};
-ghost use Rattle.task_bytes.specs.Packing.{packed_reply};
+ghost use Rattle.task_runs.specs.Packing.{packed_reply};
 ghost use Rattle.task_runs.specs.Replies.{fault_reply};
 
-use task_bytes::TaskFault;
+use crate::task_fault::TaskFault;
 
 /// Returns the packed reply about a fault. It has the outcome 100, or 101 where there is no memory; its one text is the
 /// line about the fault.

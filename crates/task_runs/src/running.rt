@@ -2,9 +2,9 @@ ghost use Rattle.design_model.specs.OutOfMemory.{UnlessOutOfMemory};
 ghost use Rattle.outside_io.specs.MemStores.{files_of};
 ghost use Rattle.program_shell.specs.ExitCodes.{exit_number};
 ghost use Rattle.std.specs.Prelude.{◌≡◌, Err, IfErr, IfOk, Ok, map};
-ghost use Rattle.task_bytes.specs.Packing.{packed_reply};
-ghost use Rattle.task_bytes.specs.TaskReading.{task_of};
-ghost use Rattle.task_bytes.specs.TaskValues.{file_value, task_is_out_of_memory, task_value};
+ghost use Rattle.task_runs.specs.Packing.{packed_reply};
+ghost use Rattle.task_runs.specs.TaskReading.{task_of};
+ghost use Rattle.task_runs.specs.TaskValues.{file_value, task_is_out_of_memory, task_value};
 ghost use Rattle.task_runs.specs.NameLists.{ListsFiles};
 ghost use Rattle.task_runs.specs.Outcomes.{IsReturned, IsRunReply, ReturnsOutcome};
 ghost use Rattle.task_runs.specs.Replies.{EachChangeIsListed, reply_of};
@@ -14,11 +14,14 @@ use crate::changed_files::changed_files;
 use crate::faults::fault_reply;
 use crate::growing_sink::GrowingSink;
 use crate::growing_store::GrowingStore;
+use crate::packing::pack_reply;
 use crate::program::TaskProgram;
+use crate::reading::read_task;
+use crate::task::{Task, TaskFile};
+use crate::task_fault::TaskFault;
 use design_model::{Bytes, Memory};
 use program_shell::Status;
 use std::alloc::Global;
-use task_bytes::{Task, TaskFault, TaskFile, pack_reply, read_task};
 
 /// Runs a packed task with a program, and returns the length of the packed reply. The reply is in the buffer if it fits
 /// there; else the buffer is unchanged, and a call with a longer one returns it.

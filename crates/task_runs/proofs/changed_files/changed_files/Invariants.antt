@@ -1,6 +1,6 @@
 use Rattle.std.proofs.Common.{◌≡◌, ◌++◌, drop, map, string_bytes}
 use Rattle.outside_io.specs.MemStores.{files_of}
-use Rattle.task_bytes.specs.TaskValues.{file_value}
+use Rattle.task_runs.specs.TaskValues.{file_value}
 use Rattle.task_runs.specs.Replies.{changed_files}
 use Rattle.task_runs.proofs.changed_files.changed_files.Given as goal
 

@@ -1,5 +1,5 @@
 use Rattle.std.proofs.Common.{◌≡◌, drop, map, option_map}
-use Rattle.task_bytes.specs.TaskValues.{file_value}
+use Rattle.task_runs.specs.TaskValues.{file_value}
 use Rattle.task_runs.specs.TaskViews.{content_after, content_in}
 use Rattle.task_runs.proofs.changed_files.content_in.Given as goal
 

@@ -1,5 +1,5 @@
 use Rattle.std.proofs.Common.{refl}
-use Rattle.task_bytes.specs.TaskValues.{task_value}
+use Rattle.task_runs.specs.TaskValues.{task_value}
 use Rattle.task_runs.proofs.OutcomeLemmas.{run_reply, same_start}
 use Rattle.task_runs.proofs.running.run_read.Goals as goal
 

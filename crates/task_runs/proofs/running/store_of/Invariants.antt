@@ -1,5 +1,5 @@
 use Rattle.std.proofs.Common.{◌≡◌, drop, map}
-use Rattle.task_bytes.specs.TaskValues.{file_value}
+use Rattle.task_runs.specs.TaskValues.{file_value}
 use Rattle.task_runs.specs.TaskViews.{store_of, with_files}
 use Rattle.task_runs.proofs.running.store_of.Given as goal
 

@@ -1,6 +1,6 @@
 ghost use Rattle.std.specs.Prelude.{map, string_bytes};
-ghost use Rattle.task_bytes.specs.TaskReading.{counted_in, file_in, items_in, task_of, text_in};
-ghost use Rattle.task_bytes.specs.TaskValues.{IsReadAs, file_value, task_value};
+ghost use Rattle.task_runs.specs.TaskReading.{counted_in, packed_file_in, items_in, task_of, text_in};
+ghost use Rattle.task_runs.specs.TaskValues.{IsReadAs, file_value, task_value};
 
 use crate::numbers::split_number;
 use crate::parts::{split_file, split_text};
@@ -55,7 +55,7 @@ fn words_after(alloc: Global, count: u32, bytes: &[u8]) -> Result<(Items<String>
 
 fn read_files(alloc: Global, bytes: &[u8]) -> Result<(Items<TaskFile<'_>>, &[u8]), TaskFault>
     ensures { IsReadAs (λ r. record { value = map file_value r.0; rest = r.1.now })
-        (counted_in file_in bytes.now) result }
+        (counted_in packed_file_in bytes.now) result }
 {
     match split_number(bytes) {
         Some((count, rest)) => files_after(alloc, count, rest),
@@ -70,7 +70,7 @@ fn files_after(
     bytes: &[u8],
 ) -> Result<(Items<TaskFile<'_>>, &[u8]), TaskFault>
     ensures { IsReadAs (λ r. record { value = map file_value r.0; rest = r.1.now })
-        (items_in file_in count bytes.now) result }
+        (items_in packed_file_in count bytes.now) result }
 {
     let mut files = Items::new(alloc);
     let mut rest = bytes;

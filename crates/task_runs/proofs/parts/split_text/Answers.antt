@@ -1,5 +1,5 @@
-use Rattle.task_bytes.proofs.ReadingLemmas.{no_text, text_read}
-use Rattle.task_bytes.proofs.parts.split_text.Goals as goal
+use Rattle.task_runs.proofs.ReadingLemmas.{no_text, text_read}
+use Rattle.task_runs.proofs.parts.split_text.Goals as goal
 
 pub returns-in-Ok-clause-ok : goal.returns-in-Ok-clause-ok
 returns-in-Ok-clause-ok c =

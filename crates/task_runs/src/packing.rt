@@ -1,7 +1,7 @@
 ghost use Rattle.std.specs.List.{flat_map};
 ghost use Rattle.std.specs.Prelude.{◌≡◌, ◌++◌, IfOk, OnOk, map};
-ghost use Rattle.task_bytes.specs.Packing.{packed_file, packed_files, packed_number, packed_part, packed_reply};
-ghost use Rattle.task_bytes.specs.TaskValues.{file_value};
+ghost use Rattle.task_runs.specs.Packing.{packed_file, packed_files, packed_number, packed_part, packed_reply};
+ghost use Rattle.task_runs.specs.TaskValues.{file_value};
 
 use crate::task::TaskFile;
 use design_model::{Bytes, Memory};

@@ -1,6 +1,6 @@
 ghost use Rattle.std.specs.Prelude.{◌≡◌, Err, IfErr, IfNone, IfOk, IfSome, None, Ok, Some};
-ghost use Rattle.task_bytes.specs.TaskReading.{part_in, text_in, file_in};
-ghost use Rattle.task_bytes.specs.TaskValues.{file_value};
+ghost use Rattle.task_runs.specs.TaskReading.{part_in, text_in, packed_file_in};
+ghost use Rattle.task_runs.specs.TaskValues.{file_value};
 
 use crate::numbers::split_number;
 use crate::task::TaskFile;
@@ -37,9 +37,9 @@ pub(crate) fn split_text(bytes: &[u8]) -> Result<(&str, &[u8]), TaskFault>
 
 /// Splits the file at the beginning of bytes from those after it.
 pub(crate) fn split_file(bytes: &[u8]) -> Result<(TaskFile<'_>, &[u8]), TaskFault>
-    ensures ok { IfOk result (λ r. file_in bytes.now
+    ensures ok { IfOk result (λ r. packed_file_in bytes.now
         ≡ Ok (record { value = file_value r.0; rest = r.1.now })) }
-    ensures err { IfErr result (λ why. file_in bytes.now ≡ Err why) }
+    ensures err { IfErr result (λ why. packed_file_in bytes.now ≡ Err why) }
 {
     let (name, rest) = split_text(bytes)?;
     match split_part(rest) {

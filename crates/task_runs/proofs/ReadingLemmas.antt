@@ -3,11 +3,11 @@ use Rattle.std.proofs.Common.{◌≡◌, ◌<◌, ◌-◌, ℕ, zero, suc, Bool,
 use Rattle.std.specs.Str.{IsUtf8, is_utf8}
 use Rattle.std.proofs.lemmas.Str.{IsUtf8-from_is_utf8, is_utf8-from_IsUtf8}
 use Rattle.std.proofs.lemmas.List.{append_assoc, map-append}
-use Rattle.task_bytes.specs.TaskReading.{Read, item_then, items_in, part_in, text_in, text_of, with_first}
+use Rattle.task_runs.specs.TaskReading.{Read, item_then, items_in, part_in, text_in, text_of, with_first}
 use Rattle.design_model.specs.OutOfMemory.{UnlessOutOfMemory}
-use Rattle.task_bytes.specs.TaskValues.{IsReadAs, joined, task_is_out_of_memory}
-use Rattle.task_bytes.specs.declared.task_fault.TaskFault.{TaskFault}
-use Rattle.task_bytes.specs.declared.task_fault.TaskFault.TheVariants as fault
+use Rattle.task_runs.specs.TaskValues.{IsReadAs, joined, task_is_out_of_memory}
+use Rattle.task_runs.specs.declared.task_fault.TaskFault.{TaskFault}
+use Rattle.task_runs.specs.declared.task_fault.TaskFault.TheVariants as fault
 
 if_true : {T : Type 0} (b : Bool) (here there : T) → b ≡ true → (if b then here else there) ≡ here
 if_true true here there is = refl

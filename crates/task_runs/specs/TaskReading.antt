@@ -1,9 +1,9 @@
 -- What bytes say as a task, or their first fault.
 use Rattle.std.specs.Prelude.{◌≡◌, ℕ, ◌+◌, ◌*◌, zero, suc, nat_le, Bool, true, false, List, [], ◌∷◌, length, take, drop, map, Option, Some, None, Result, Ok, Err, if◌then◌else◌, string_bytes}
 use Rattle.std.specs.Str.{is_utf8}
-use Rattle.task_bytes.specs.Packing.{FileValue, TaskValue}
-use Rattle.task_bytes.specs.declared.task_fault.TaskFault.{TaskFault}
-use Rattle.task_bytes.specs.declared.task_fault.TaskFault.TheVariants as fault
+use Rattle.task_runs.specs.Packing.{FileValue, TaskValue}
+use Rattle.task_runs.specs.declared.task_fault.TaskFault.{TaskFault}
+use Rattle.task_runs.specs.declared.task_fault.TaskFault.TheVariants as fault
 
 -- A value that was read off bytes, and the bytes after it.
 pub record Read (T : Type 0) : Type 0 where
@@ -51,8 +51,8 @@ file_after (Ok read) = file_with read.value (part_in read.rest)
 file_after (Err why) = Err why
 
 -- The file at the beginning of bytes.
-abbrev pub file_in : List ℕ → Result (Read FileValue) TaskFault
-file_in bytes = file_after (text_in bytes)
+abbrev pub packed_file_in : List ℕ → Result (Read FileValue) TaskFault
+packed_file_in bytes = file_after (text_in bytes)
 
 -- Items with one more before them.
 abbrev pub with_first : {T : Type 0} → T → Result (Read (List T)) TaskFault
@@ -95,7 +95,7 @@ task_with words (Ok read) = whole words read.value read.rest
 
 -- The task after its arguments.
 abbrev pub task_after : Result (Read (List (List ℕ))) TaskFault → Result TaskValue TaskFault
-task_after (Ok read) = task_with read.value (counted_in file_in read.rest)
+task_after (Ok read) = task_with read.value (counted_in packed_file_in read.rest)
 task_after (Err why) = Err why
 
 -- The task that bytes say, or their first fault.

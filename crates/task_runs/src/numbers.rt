@@ -1,5 +1,5 @@
 ghost use Rattle.std.specs.Prelude.{◌≡◌, IfNone, IfSome, None, Some};
-ghost use Rattle.task_bytes.specs.TaskReading.{number_in, number_of};
+ghost use Rattle.task_runs.specs.TaskReading.{number_in, number_of};
 
 /// Splits the number at the beginning of bytes from those after it.
 pub(crate) fn split_number(bytes: &[u8]) -> Option<(u32, &[u8])>

@@ -1,7 +1,7 @@
 use Rattle.std.proofs.Common.{string_bytes}
-use Rattle.task_bytes.specs.TaskReading.{text_in}
-use Rattle.task_bytes.proofs.ReadingLemmas.{item_kept}
-use Rattle.task_bytes.proofs.reading.words_after.Goals as goal
+use Rattle.task_runs.specs.TaskReading.{text_in}
+use Rattle.task_runs.proofs.ReadingLemmas.{item_kept}
+use Rattle.task_runs.proofs.reading.words_after.Goals as goal
 
 pub loop-left-preserved : goal.loop-left-preserved
 loop-left-preserved c = item_kept string_bytes text_in _ c.loop-left.words c.push.new.self c.in-Ok.word c.loop-left.left

@@ -1,7 +1,7 @@
 use Rattle.std.proofs.Common.{map, string_bytes, ◌≡◌}
-use Rattle.task_bytes.specs.TaskReading.{items_in, text_in}
-use Rattle.task_bytes.specs.TaskValues.{joined}
-use Rattle.task_bytes.proofs.reading.words_after.Given as goal
+use Rattle.task_runs.specs.TaskReading.{items_in, text_in}
+use Rattle.task_runs.specs.TaskValues.{joined}
+use Rattle.task_runs.proofs.reading.words_after.Given as goal
 
 -- the words so far, and what is read of the bytes that are left
 abbrev pub invariant-loop-left : goal.invariant-loop-left

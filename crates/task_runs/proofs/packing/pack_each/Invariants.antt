@@ -1,8 +1,8 @@
 use Rattle.std.proofs.Common.{◌≡◌, ◌++◌, drop, map}
 use Rattle.std.specs.List.{flat_map}
-use Rattle.task_bytes.specs.Packing.{packed_file}
-use Rattle.task_bytes.specs.TaskValues.{file_value}
-use Rattle.task_bytes.proofs.packing.pack_each.Given as goal
+use Rattle.task_runs.specs.Packing.{packed_file}
+use Rattle.task_runs.specs.TaskValues.{file_value}
+use Rattle.task_runs.proofs.packing.pack_each.Given as goal
 
 -- the bytes so far, and the files that are left
 abbrev pub invariant-loop-file : goal.invariant-loop-file

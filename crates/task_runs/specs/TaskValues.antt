@@ -1,12 +1,12 @@
 -- Tasks of the code as values, and results of reading them.
 use Rattle.std.specs.Prelude.{◌≡◌, ℕ, Bool, true, false, List, ◌++◌, map, Result, Ok, Err, string_bytes}
 use Rattle.design_model.specs.OutOfMemory.{UnlessOutOfMemory}
-use Rattle.task_bytes.specs.declared.task.Task.{Task}
-use Rattle.task_bytes.specs.declared.task.TaskFile.{TaskFile}
-use Rattle.task_bytes.specs.declared.task_fault.TaskFault.{TaskFault}
-use Rattle.task_bytes.specs.declared.task_fault.TaskFault.TheVariants as fault
-use Rattle.task_bytes.specs.Packing.{FileValue, TaskValue}
-use Rattle.task_bytes.specs.TaskReading.{Read}
+use Rattle.task_runs.specs.declared.task.Task.{Task}
+use Rattle.task_runs.specs.declared.task.TaskFile.{TaskFile}
+use Rattle.task_runs.specs.declared.task_fault.TaskFault.{TaskFault}
+use Rattle.task_runs.specs.declared.task_fault.TaskFault.TheVariants as fault
+use Rattle.task_runs.specs.Packing.{FileValue, TaskValue}
+use Rattle.task_runs.specs.TaskReading.{Read}
 
 -- The name and content of a file of a task.
 abbrev pub file_value : TaskFile → FileValue

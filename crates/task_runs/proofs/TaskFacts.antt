@@ -2,9 +2,9 @@
 use Rattle.std.proofs.Common.{◌≡◌, [], ◌∷◌, ◌++◌, Ok, Err, refl}
 use Rattle.std.specs.Str.{chars, is_utf8}
 use Rattle.std.proofs.Math.Utf8.{encode}
-use Rattle.task_bytes.specs.Packing.{ReplyValue, TaskValue, packed_number, packed_reply, packed_task}
-use Rattle.task_bytes.specs.TaskReading.{number_of, task_of}
-use Rattle.task_bytes.specs.declared.task_fault.TaskFault.TheVariants as fault
+use Rattle.task_runs.specs.Packing.{ReplyValue, TaskValue, packed_number, packed_reply, packed_task}
+use Rattle.task_runs.specs.TaskReading.{number_of, task_of}
+use Rattle.task_runs.specs.declared.task_fault.TaskFault.TheVariants as fault
 
 -- numbers, the low byte first
 pub known_numbers : (packed_number 258 ≡ 2 ∷ 1 ∷ 0 ∷ 0 ∷ [])

@@ -1,4 +1,4 @@
-ghost use Rattle.task_bytes.specs.declared.task_fault.TaskFault.TheVariants as fault;
+ghost use Rattle.task_runs.specs.declared.task_fault.TaskFault.TheVariants as fault;
 ghost use Rattle.std.specs.Prelude.{◌≡◌};
 
 use design_model::Memory;

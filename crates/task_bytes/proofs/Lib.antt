@@ -1,2 +1,0 @@
-mod ReadingLemmas
-mod TaskFacts
