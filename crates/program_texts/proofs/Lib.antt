@@ -2,3 +2,5 @@ mod SegmentLemmas
 mod TextFacts
 mod DesignFacts
 mod TracingFacts
+mod BoundaryLemmas
+mod CompanionFacts

@@ -6,3 +6,6 @@ pub mod UsageText
 pub mod DesignReports
 pub mod TracingReports
 pub mod MigrationReports
+-- What the programs beside stitch say of their arguments.
+pub mod MistakenWords
+pub mod CompanionUsage

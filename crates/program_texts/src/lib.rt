@@ -1,7 +1,8 @@
-//! The texts about designs and drawings that the program prints: reports, the text of each refusal, and the
-//! usage text.
+//! The texts about designs and drawings that the programs print: reports, the text of each refusal, the usage text of
+//! `stitch`, and what the programs beside it say of an argument that isn't understood.
 #![tactic(auto)]
 
+mod companion_usage;
 mod design_reports;
 mod design_texts;
 mod drawing_texts;
@@ -9,6 +10,9 @@ mod migration_reports;
 mod tracing_reports;
 mod usage_text;
 
+pub use companion_usage::{
+    MAX_NAME, MAX_USAGE, MAX_WHY, UsageText, usage_after, usage_alone, version_text,
+};
 pub use design_reports::{describe_loaded, describe_written};
 pub use design_texts::{
     describe_command, describe_no_place, describe_too_large, describe_write_fault,

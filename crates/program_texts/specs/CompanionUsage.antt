@@ -1,12 +1,14 @@
 -- What the programs beside stitch print of their arguments.
-use Rattle.std.specs.Prelude.{ℕ, min, List, ◌++◌, Option, Some, None, codes, length, take}
+use Rattle.std.specs.Fmt.Cut.{floor_char_boundary}
+use Rattle.std.specs.Prelude.{ℕ, List, ◌++◌, Option, Some, None, codes, length, take, nat_le, if◌then◌else◌}
 use Rattle.design_model.specs.TextLines.{newline}
-use Rattle.companion_words.specs.declared.usage_text.TheConstants.{MAX_SHOWN}
-use Rattle.companion_words.specs.MistakenWords.{MistakenWord}
+use Rattle.program_texts.specs.declared.companion_usage.TheConstants.{MAX_SHOWN}
+use Rattle.program_texts.specs.MistakenWords.{MistakenWord}
 
--- What is shown of an argument: its first MAX_SHOWN bytes.
+-- What is shown of an argument: the characters that its first MAX_SHOWN bytes have entirely.
 abbrev pub shown_word : List ℕ → List ℕ
-shown_word word = take (min (length word) MAX_SHOWN) word
+shown_word word =
+    if nat_le (length word) MAX_SHOWN then word else take (floor_char_boundary word MAX_SHOWN) word
 
 -- The line about an argument that isn't understood.
 abbrev pub mistake_line : (name word why : List ℕ) → List ℕ

@@ -1,4 +1,4 @@
-ghost use Rattle.companion_words.specs.UsageTexts.{mistake_line, shown_word, version_line};
+ghost use Rattle.program_texts.specs.CompanionUsage.{mistake_line, shown_word, version_line};
 ghost use Rattle.std.specs.Prelude.{◌≡◌, ◌≤◌, ◌++◌, ◌+◌, length};
 
 use arrayvec::ArrayVec;
@@ -64,9 +64,11 @@ fn shown(word: &str) -> &[u8]
     ensures value { result.now ≡ shown_word word.now }
     ensures short { length result.now ≤ MAX_SHOWN }
 {
-    let bytes = word.as_bytes();
-    let (shown, _) = bytes.split_at(bytes.len().min(MAX_SHOWN));
-    shown
+    if word.len() <= MAX_SHOWN {
+        return word.as_bytes();
+    }
+    let end = word.floor_char_boundary(MAX_SHOWN);
+    &word.as_bytes()[..end]
 }
 
 fn put(text: &mut UsageText, part: &[u8])

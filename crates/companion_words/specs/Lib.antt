@@ -1,2 +1,0 @@
-pub mod MistakenWords
-pub mod UsageTexts
