@@ -1,0 +1,263 @@
+ghost use Rattle.line_meetings.specs.declared.meeting.TheConstants.{MAX_MEETINGS};
+ghost use Rattle.line_meetings.specs.Joints.{are_joined, are_joined_around};
+ghost use Rattle.line_meetings.specs.Meetings.{beside, close_points, close_to, meetings_among, meetings_of_lines, point_beside as point_beside_of, touch as touch_of, touches};
+ghost use Rattle.line_meetings.specs.Telling.{TellsUpTo, told};
+ghost use Rattle.std.specs.List.{flat_map};
+ghost use Rattle.std.specs.Prelude.{◌≡◌, ◌++◌, IfOk, OnOk, filter, length, map, nat_lt, not};
+
+use crate::copies::without_copies;
+use crate::joints::do_join;
+use crate::meeting::{MAX_MEETINGS, Meeting, Meetings};
+use crate::meetings::{near_points, point_beside, touch};
+use crate::parts::{points, segments};
+use crate::query::Query;
+use crate::region::{Region, matches, regions};
+use design_model::Memory;
+use drawing_review::LineSegment;
+use line_sections::Line;
+use std::alloc::Global;
+
+/// Returns where lines of a block should meet and don't, with a gap in tenths of a millimetre, at most
+/// `MAX_MEETINGS + 1` of them.
+pub fn find_meetings(alloc: Global, lines: &[Line], gap: u16) -> Result<Meetings, Memory>
+    ensures { IfOk result (λ meetings. meetings ≡ meetings_of_lines gap lines.now) }
+{
+    let points = points(alloc, lines)?;
+    let points = without_copies(alloc, points.as_slice())?;
+    let segments = segments(alloc, lines)?;
+    let segments = without_copies(alloc, segments.as_slice())?;
+    let found = found_among(
+        alloc,
+        gap,
+        points.kept.as_slice(),
+        segments.kept.as_slice(),
+        segments.again.as_slice(),
+    )?;
+    Ok(those_told(found))
+}
+
+/// Returns the meetings that are told.
+#[tactic(auto, unfolding(crate::specs::Telling::told))]
+fn those_told(found: Meetings) -> Meetings
+    ensures { result ≡ told found }
+{
+    let mut held = found.into_vec();
+    held.truncate(MAX_MEETINGS + 1);
+    Meetings::from_vec(held)
+}
+
+/// Returns the meetings of points and of segments, and those of segments drawn again. There may be too many.
+fn found_among(
+    alloc: Global,
+    gap: u16,
+    points: &[LineSegment],
+    segments: &[LineSegment],
+    again: &[Meeting],
+) -> Result<Meetings, Memory>
+    ensures { IfOk result (λ found. told found
+        ≡ told (meetings_among gap points.now segments.now again.now)) }
+{
+    let near = regions(alloc, points)?;
+    let regions = regions(alloc, segments)?;
+    let mut found = Meetings::new(alloc);
+    put_all_close(
+        alloc,
+        gap,
+        near.as_slice(),
+        regions.as_slice(),
+        points,
+        &mut found,
+    )?;
+    put_all_beside(alloc, gap, regions.as_slice(), points, &mut found)?;
+    put_all_touches(alloc, regions.as_slice(), segments, &mut found)?;
+    found.append(again)?;
+    Ok(found)
+}
+
+/// Returns whether more meetings are found than are told.
+fn are_enough(found: &Meetings) -> bool
+    ensures { result ≡ nat_lt MAX_MEETINGS (length found.now) }
+{
+    MAX_MEETINGS < found.len()
+}
+
+fn put_all_close(
+    alloc: Global,
+    gap: u16,
+    near: &[Region],
+    regions: &[Region],
+    points: &[LineSegment],
+    found: &mut Meetings,
+) -> Result<(), Memory>
+    ensures { OnOk result (TellsUpTo (flat_map (close_to gap (flat_map (λ r. r) near.now)
+        (flat_map (λ r. r) regions.now)) points.now) found.old found.new) }
+{
+    for p in points {
+        if are_enough(found) {
+            return Ok(());
+        }
+        put_close(alloc, gap, near, regions, p, found)?;
+    }
+    Ok(())
+}
+
+fn put_all_beside(
+    alloc: Global,
+    gap: u16,
+    regions: &[Region],
+    points: &[LineSegment],
+    found: &mut Meetings,
+) -> Result<(), Memory>
+    ensures { OnOk result (TellsUpTo (flat_map (beside gap (flat_map (λ r. r) regions.now)) points.now)
+        found.old found.new) }
+{
+    for p in points {
+        if are_enough(found) {
+            return Ok(());
+        }
+        put_beside(alloc, gap, regions, p, found)?;
+    }
+    Ok(())
+}
+
+fn put_all_touches(
+    alloc: Global,
+    regions: &[Region],
+    segments: &[LineSegment],
+    found: &mut Meetings,
+) -> Result<(), Memory>
+    ensures { OnOk result (TellsUpTo (flat_map (touches (flat_map (λ r. r) regions.now)) segments.now)
+        found.old found.new) }
+{
+    for s in segments {
+        if are_enough(found) {
+            return Ok(());
+        }
+        put_touches(alloc, regions, s, found)?;
+    }
+    Ok(())
+}
+
+/// Adds the points that nearly meet a point.
+fn put_close(
+    alloc: Global,
+    gap: u16,
+    near: &[Region],
+    regions: &[Region],
+    p: &LineSegment,
+    found: &mut Meetings,
+) -> Result<(), Memory>
+    ensures { OnOk result (found.new ≡ found.old ++ close_to gap (flat_map (λ r. r) near.now)
+        (flat_map (λ r. r) regions.now) p.now) }
+{
+    let point = *p;
+    let close = matches(alloc, near, Query::Close { gap, point })?;
+    put_unjoined(alloc, gap, regions, p, close.as_slice(), found)?;
+    Ok(())
+}
+
+/// Adds the points that no segments near by join to a point.
+fn put_unjoined(
+    alloc: Global,
+    gap: u16,
+    regions: &[Region],
+    p: &LineSegment,
+    close: &[LineSegment],
+    found: &mut Meetings,
+) -> Result<(), Memory>
+    ensures { OnOk result (found.new ≡ found.old ++ map (close_points p.now)
+        (filter (λ q. not (are_joined gap (flat_map (λ r. r) regions.now) p.now q)) close.now)) }
+{
+    for q in close {
+        if is_joined(alloc, gap, regions, p, q)? {
+            continue;
+        }
+        found.push(near_points(p, q))?;
+    }
+    Ok(())
+}
+
+/// Returns whether segments join two points within the gap of one of them.
+fn is_joined(
+    alloc: Global,
+    gap: u16,
+    regions: &[Region],
+    p: &LineSegment,
+    q: &LineSegment,
+) -> Result<bool, Memory>
+    ensures { IfOk result (λ joined. joined ≡ are_joined gap (flat_map (λ r. r) regions.now) p.now q.now) }
+{
+    if is_joined_around(alloc, gap, regions, p, q)? {
+        return Ok(true);
+    }
+    is_joined_around(alloc, gap, regions, q, p)
+}
+
+/// Returns whether segments join two points within the gap of the first.
+fn is_joined_around(
+    alloc: Global,
+    gap: u16,
+    regions: &[Region],
+    p: &LineSegment,
+    q: &LineSegment,
+) -> Result<bool, Memory>
+    ensures { IfOk result (λ joined. joined
+        ≡ are_joined_around gap (flat_map (λ r. r) regions.now) p.now q.now) }
+{
+    let point = *p;
+    let around = matches(alloc, regions, Query::Around { gap, point })?;
+    do_join(alloc, around.as_slice(), p.a, q.a)
+}
+
+/// Adds the segments that a point lies beside.
+fn put_beside(
+    alloc: Global,
+    gap: u16,
+    regions: &[Region],
+    p: &LineSegment,
+    found: &mut Meetings,
+) -> Result<(), Memory>
+    ensures { OnOk result (found.new ≡ found.old ++ beside gap (flat_map (λ r. r) regions.now) p.now) }
+{
+    let point = *p;
+    let passed = matches(alloc, regions, Query::Beside { gap, point })?;
+    put_passed(gap, p, passed.as_slice(), found)?;
+    Ok(())
+}
+
+fn put_passed(
+    gap: u16,
+    p: &LineSegment,
+    passed: &[LineSegment],
+    found: &mut Meetings,
+) -> Result<(), Memory>
+    ensures { OnOk result (found.new ≡ found.old ++ map (point_beside_of gap p.now) passed.now) }
+{
+    for t in passed {
+        found.push(point_beside(gap, p, t))?;
+    }
+    Ok(())
+}
+
+/// Adds the later segments that cross a segment, or share more than a point with it.
+fn put_touches(
+    alloc: Global,
+    regions: &[Region],
+    s: &LineSegment,
+    found: &mut Meetings,
+) -> Result<(), Memory>
+    ensures { OnOk result (found.new ≡ found.old ++ touches (flat_map (λ r. r) regions.now) s.now) }
+{
+    let touched = matches(alloc, regions, Query::Touching(*s))?;
+    put_touched(s, touched.as_slice(), found)?;
+    Ok(())
+}
+
+fn put_touched(s: &LineSegment, touched: &[LineSegment], found: &mut Meetings) -> Result<(), Memory>
+    ensures { OnOk result (found.new ≡ found.old ++ map (touch_of s.now) touched.now) }
+{
+    for t in touched {
+        found.push(touch(s, t))?;
+    }
+    Ok(())
+}

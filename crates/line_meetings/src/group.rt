@@ -1,0 +1,94 @@
+ghost use Rattle.line_meetings.specs.Bounds.{AreAllWithin};
+ghost use Rattle.line_meetings.specs.Queries.{answers_query, query_bounds};
+ghost use Rattle.std.specs.Prelude.{◌≡◌, ◌++◌, IfOk, OnOk, filter};
+
+use crate::bounds::Bounds;
+use crate::query::Query;
+use design_model::Memory;
+use drawing_review::LineSegment;
+use std::alloc::Global;
+use std::marker::Model;
+
+/// Parts that follow each other, and bounds that have them inside.
+#[derive(Drop)]
+pub struct Group {
+    bounds: Bounds,
+    parts: Vec<LineSegment>,
+}
+
+impl Model for Group {
+    ghost use Rattle.drawing_review.specs.declared.segment.LineSegment.{LineSegment};
+    ghost use Rattle.std.specs.Prelude.{List};
+    ghost use Rattle.line_meetings.specs.Bounds.{AreAllWithin};
+
+    ghost Value = { List LineSegment };
+
+    ghost view = { λ g. g.parts.items };
+
+    ghost invariant = { λ g. AreAllWithin g.bounds g.parts.items };
+}
+
+impl Group {
+    /// Returns the group of some parts.
+    pub fn of(alloc: Global, some: &[LineSegment]) -> Result<Group, Memory>
+        ensures { IfOk result (λ group. group ≡ some.now) }
+    {
+        let bounds = bounds_of_all(some);
+        let mut parts = Vec::new(alloc);
+        parts.extend_from_slice(some)?;
+        Ok(Group { bounds, parts })
+    }
+
+    /// Returns bounds that have the parts inside.
+    fn bounds(&self) -> Bounds
+        ensures { AreAllWithin result self.now }
+    {
+        self.bounds
+    }
+
+    /// Adds the parts of the group that a question is about. The bounds are those of the question.
+    pub fn put_matches(
+        &self,
+        query: &Query,
+        bounds: &Bounds,
+        found: &mut Vec<LineSegment>,
+    ) -> Result<(), Memory>
+        requires { bounds.now ≡ query_bounds query.now }
+        ensures { OnOk result (found.new.items
+            ≡ found.old.items ++ filter (answers_query query.now) self.now) }
+    {
+        if bounds.is_apart(&self.bounds()) {
+            return Ok(());
+        }
+        put_matches_among(self.parts.as_slice(), query, bounds, found)
+    }
+}
+
+/// Returns bounds that have parts inside.
+pub fn bounds_of_all(parts: &[LineSegment]) -> Bounds
+    ensures { AreAllWithin result parts.now }
+{
+    let mut bounds = Bounds::empty();
+    for part in parts {
+        bounds = bounds.united(&Bounds::of(part));
+    }
+    bounds
+}
+
+fn put_matches_among(
+    parts: &[LineSegment],
+    query: &Query,
+    bounds: &Bounds,
+    found: &mut Vec<LineSegment>,
+) -> Result<(), Memory>
+    requires { bounds.now ≡ query_bounds query.now }
+    ensures { OnOk result (found.new.items ≡ found.old.items ++ filter (answers_query query.now) parts.now) }
+{
+    for part in parts {
+        if !query.matches(bounds, part) {
+            continue;
+        }
+        found.push(*part)?;
+    }
+    Ok(())
+}
