@@ -1,0 +1,3 @@
+pub mod PlaceLemmas
+mod LookFacts
+mod SpacingFacts
