@@ -1,0 +1,43 @@
+-- Rounds: in each, all meetings of the lines are found and acted on. All segments are those of the
+-- beginning of the round, and starts and ends move with their points. Lengths are whole tenths of a
+-- millimetre.
+use Rattle.std.specs.Prelude.{ℕ, zero, suc, Bool, List, if◌then◌else◌}
+use Rattle.line_meetings.specs.Meetings.{meetings_of_lines}
+use Rattle.meeting_rounds.specs.declared.acts.Acts.{Acts}
+use Rattle.meeting_rounds.specs.declared.rounds.TheConstants.{MAX_ROUNDS}
+use Rattle.meeting_rounds.specs.declared.rounds.WorkedLines.{WorkedLines}
+use Rattle.meeting_rounds.specs.declared.tracked_lines.TrackedLine.{TrackedLine}
+use Rattle.meeting_rounds.specs.Acts.{acts_next, no_acts}
+use Rattle.meeting_rounds.specs.FilledLines.{filled_lines, places_put}
+use Rattle.meeting_rounds.specs.MovedPoints.{lines_moved, spots_moved, tracked_at}
+use Rattle.meeting_rounds.specs.TrackedLines.{lines_as_worked}
+
+-- What is done on the meetings of a round.
+abbrev pub round_acts : (lists_crossings : Bool) → ℕ → List TrackedLine → Acts
+round_acts lists_crossings gap lines = acts_next lists_crossings gap
+    (tracked_at lines) lines no_acts
+    (meetings_of_lines gap (lines_as_worked lines))
+
+-- Lines after points were put into their segments and points moved.
+abbrev pub lines_after : Acts → List TrackedLine → List TrackedLine
+lines_after acts lines = lines_moved acts.moves (filled_lines (places_put acts.puts) 0 lines)
+
+-- Lines, starts and ends after the acts of a round.
+abbrev pub worked_by : Acts → WorkedLines → WorkedLines
+worked_by acts worked = record {
+  lines = lines_after acts worked.lines;
+  starts = spots_moved acts.moves worked.starts;
+  ends = spots_moved acts.moves worked.ends;
+}
+
+-- Lines, starts and ends after a number of rounds, or after the first one in which nothing is done.
+abbrev pub after_rounds : (rounds : ℕ) → (lists_crossings : Bool) → (gap : ℕ) → WorkedLines
+    → WorkedLines
+after_rounds zero lists_crossings gap worked = worked
+after_rounds (suc n) lists_crossings gap worked =
+    let acts = round_acts lists_crossings gap worked.lines in
+    if acts.is_idle then worked else after_rounds n lists_crossings gap (worked_by acts worked)
+
+-- Lines, starts and ends after as many rounds as there may be.
+unfoldable pub settled_lines : (lists_crossings : Bool) → (gap : ℕ) → WorkedLines → WorkedLines
+settled_lines lists_crossings gap worked = after_rounds MAX_ROUNDS lists_crossings gap worked

@@ -1,0 +1,22 @@
+//! Lines that list their meetings: in rounds, points become one that nearly meet, and points are put into
+//! segments.
+#![tactic(auto)]
+
+mod acts;
+mod filling;
+mod moved_points;
+mod pinned_spots;
+mod place_numbers;
+mod placed_points;
+mod point_bounds;
+mod puts;
+mod rounds;
+mod segment_places;
+mod spot_moves;
+mod theorems;
+mod tracked_lines;
+
+pub use point_bounds::PointBounds;
+pub use rounds::{MAX_ROUND_GAP, MAX_ROUNDS, WorkedLines, settled};
+pub use theorems::lines_without_meetings_stay;
+pub use tracked_lines::{TrackedLine, TrackedPoint, lines_of, tracked};
