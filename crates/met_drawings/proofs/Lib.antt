@@ -1,0 +1,3 @@
+mod CopyFacts
+pub mod PassedLemmas
+pub mod LeftLemmas

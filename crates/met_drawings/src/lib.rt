@@ -1,0 +1,16 @@
+//! Drawings whose lines list where they should meet, without copies of segments.
+#![tactic(auto)]
+
+mod copies;
+mod listed_meetings;
+mod meet_fault;
+mod meeting;
+mod meeting_counts;
+mod passed_segments;
+mod theorems;
+
+pub use listed_meetings::MeetingRule;
+pub use meet_fault::{MeetFault, VanishedLine};
+pub use meeting::{MetDrawing, meet};
+pub use meeting_counts::MeetingCounts;
+pub use theorems::segments_are_left_once;
