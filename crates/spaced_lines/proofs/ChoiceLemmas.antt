@@ -7,9 +7,8 @@ use Rattle.std.proofs.lemmas.List.{drop_all, drop_more, length-append, length-ta
 use Rattle.std.proofs.lemmas.List.Folds.{list_all-append}
 use Rattle.design_model.specs.Lengths.{square_of}
 use Rattle.design_model.specs.declared.point.Point.{Point}
-use Rattle.drawing_repairs.specs.Anchors.{distance_between}
 use Rattle.spaced_lines.specs.BestChoices.{best_over, best_with, better_with, is_better, room_after, room_of}
-use Rattle.spaced_lines.specs.SpacingRules.{does_none_stay, may_leave_out}
+use Rattle.spaced_lines.specs.SpacingRules.{distance_between, does_none_stay, may_leave_out}
 use Rattle.spaced_lines.specs.declared.best.Best.{Best}
 use Rattle.spaced_lines.specs.declared.spacing_rule.SpacingRule.{SpacingRule}
 use Rattle.spaced_lines.specs.declared.spacing_rule.TheConstants.{MAX_LEFT_OUT}

@@ -16,7 +16,6 @@ pub use Rattle.line_graph.specs.GrowingDrawings.{and_then, point_count}
 pub use Rattle.line_graph.specs.Needles.{segment_steps, steps_of_line}
 pub use Rattle.line_graph.specs.WalkEnds.{are_connected_spots, end_spots, has_end_at_spot, is_junction, merged_representative}
 pub use Rattle.line_graph.specs.WalkEnds.{representative, spot_added}
-pub use Rattle.drawing_repairs.specs.Anchors.{distance_between}
 pub use Rattle.drawing_review.specs.Frames.{grid_point}
 pub use Rattle.drawing_review.specs.Meetings.{is_near}
 pub use Rattle.line_sections.specs.Lines.{LineValue}
@@ -33,7 +32,8 @@ pub use Rattle.spaced_lines.specs.Choices.{IsBestChoice, IsChoice, IsStretch, sq
 pub use Rattle.spaced_lines.specs.SpacedLines.{is_spot_of, spaced_line, spaced_lines, spaced_points}
 pub use Rattle.spaced_lines.specs.SpacingLaws.{EachPointSavesAStep, KeptPointsAreBest, PiecesStay, ReversedLinesAreAsGood}
 pub use Rattle.spaced_lines.specs.SpacingLaws.{SectionsKeepEnds, SharedPointsAreJunctions, SpacedLinesAreLines}
-pub use Rattle.spaced_lines.specs.SpacingRules.{comes_near_all, does_none_stay, is_stitch_for, leeway_of, may_leave_out, rule_of}
+pub use Rattle.spaced_lines.specs.SpacingRules.{comes_near_all, distance_between, does_none_stay, is_stitch_for, leeway_of}
+pub use Rattle.spaced_lines.specs.SpacingRules.{may_leave_out, rule_of}
 pub use Rattle.spaced_lines.specs.declared.best.Best.{Best}
 pub use Rattle.spaced_lines.specs.declared.spacing_rule.SpacingLimits.{SpacingLimits}
 pub use Rattle.spaced_lines.specs.declared.spacing_rule.SpacingRule.{SpacingRule}

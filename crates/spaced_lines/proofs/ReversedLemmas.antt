@@ -4,7 +4,7 @@ use Rattle.std.specs.Int.{abs_diff}
 use Rattle.std.specs.Prelude.{max, reverse, unsigned_abs}
 use Rattle.std.proofs.lemmas.Int.{ints}
 use Rattle.std.proofs.lemmas.List.{length-reverse, reverse-append}
-use Rattle.drawing_repairs.specs.Listings.{segment_between}
+use Rattle.spaced_lines.specs.SpacingRules.{segment_between}
 use Rattle.drawing_review.specs.Frames.{are_apart, frame_around, frame_between}
 use Rattle.drawing_review.specs.Meetings.{clockwise_sum, counter_sum, reach_of}
 use Rattle.drawing_review.specs.declared.frame.Frame.{Frame}

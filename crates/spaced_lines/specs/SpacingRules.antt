@@ -1,18 +1,27 @@
 -- Rules of spacing: which points of a line may be left out between two that are kept. One stitch
 -- leads from the one to the other, within the rule's lengths, and comes near all points between.
 -- Distances are in tenths of a millimetre.
-use Rattle.std.specs.Prelude.{ℕ, ◌/◌, ◌*◌, max, not, Bool, true, ◌&&◌, nat_le, List, [], ◌∷◌, length, Option, Some, None}
+use Rattle.std.specs.Prelude.{ℕ, ◌/◌, ◌*◌, max, not, Bool, true, false, ◌&&◌, nat_le, List, [], ◌∷◌, length, Option, Some, None}
 use Rattle.std.specs.List.{list_all}
 use Rattle.design_model.specs.Lengths.{square_of}
-use Rattle.design_model.specs.Points.{is_same_point}
+use Rattle.design_model.specs.Points.{is_same_point, move_between, move_size}
 use Rattle.design_model.specs.declared.point.Point.{Point}
 use Rattle.drawing_review.specs.Frames.{grid_point}
+use Rattle.drawing_review.specs.declared.segment.LineSegment.{LineSegment}
 use Rattle.drawing_review.specs.Meetings.{is_near}
-use Rattle.drawing_repairs.specs.Anchors.{distance_between}
-use Rattle.drawing_repairs.specs.Listings.{segment_between}
+use Rattle.drawing_review.specs.Segments.{drawn_segment}
 use Rattle.spaced_lines.specs.declared.spacing_rule.SpacingLimits.{SpacingLimits}
 use Rattle.spaced_lines.specs.declared.spacing_rule.SpacingRule.{SpacingRule}
 use Rattle.spaced_lines.specs.declared.spacing_rule.TheConstants.{MAX_LEFT_OUT}
+
+-- The distance between two points, on the larger axis.
+abbrev pub distance_between : Point → Point → ℕ
+distance_between p q = move_size (move_between p q)
+
+-- The segment from a to b, by itself.
+abbrev pub segment_between : Point → Point → LineSegment
+segment_between a b = drawn_segment
+    (record { block = 0; line = 0; number = 0; is_first = false; is_last = false }) a b
 
 -- How far a point that is left out may be from its stitch where nothing is given: a tenth of a
 -- step, and at least 1.

@@ -1,16 +1,15 @@
 ghost use Rattle.design_model.specs.declared.point.Point.{Point as PointValue};
-ghost use Rattle.drawing_repairs.specs.Anchors.{distance_between};
 ghost use Rattle.line_sections.specs.Spots.{is_same_spot};
 ghost use Rattle.spaced_lines.specs.BestChoices.{IsWithin, best_from, best_over, bests_of, better_with, room_after, room_of};
 ghost use Rattle.spaced_lines.specs.SpacedLines.{is_spot_of};
-ghost use Rattle.spaced_lines.specs.SpacingRules.{does_none_stay};
+ghost use Rattle.spaced_lines.specs.SpacingRules.{distance_between, does_none_stay};
 ghost use Rattle.std.specs.HashSet.{contains};
 ghost use Rattle.std.specs.Prelude.{◌≡◌, ℕ, ◌+◌, ◌≤◌, ◌<◌, Bool, true, ◌&&◌, All, IfOk, drop, length, nat_le, nat_lt, take};
 
 use crate::best::{Best, NO_STITCH};
+use crate::lone_stitches::distance;
 use crate::spacing_rule::{MAX_LEFT_OUT, SpacingRule, is_stitch};
 use design_model::{Memory, Point};
-use drawing_repairs::distance;
 use line_graph::MAX_POINTS;
 use line_sections::Spot;
 use std::alloc::Global;
@@ -89,17 +88,26 @@ fn best_beyond(
         → result ≡ best_over stays rule p nearest (take 1 after.now) (drop 1 after.now) (drop 1 bests.now) }
 {
     let mut best = nearest;
+    let mut far = 0;
     let mut n = room.min(after.len() - 1);
     while n > 0 {
-        best = better(rule, p, &after[..n], after[n], &bests[n], best);
+        best = better(rule, p, &after[..n], after[n], &bests[n], best, &mut far);
         n -= 1;
     }
     best
 }
 
 /// Returns the choice whose first stitch leads from `p` to `b` and leaves out points, where it is better than
-/// another one, and else that one.
-fn better(rule: SpacingRule, p: Point, out: &[Point], b: Point, from: &Best, other: Best) -> Best
+/// another one, and else that one. The point with the index `far` is tested first.
+fn better(
+    rule: SpacingRule,
+    p: Point,
+    out: &[Point],
+    b: Point,
+    from: &Best,
+    other: Best,
+    far: &mut usize,
+) -> Best
     requires some { 1 ≤ length out.now }
     requires most { length out.now ≤ MAX_LEFT_OUT }
     requires small { IsWithin MAX_POINTS from.now }
@@ -111,7 +119,7 @@ fn better(rule: SpacingRule, p: Point, out: &[Point], b: Point, from: &Best, oth
         return other;
     }
     let new = from.with(p, b, out.len());
-    if new.is_better(&other) && is_stitch(rule, p, b, out) {
+    if new.is_better(&other) && is_stitch(rule, p, b, out, far) {
         new
     } else {
         other

@@ -4,8 +4,8 @@ ghost use Rattle.line_sections.specs.declared.spot.Spot.{Spot as SpotValue};
 ghost use Rattle.std.specs.HashSet.{contains};
 ghost use Rattle.std.specs.Prelude.{◌≡◌, ◌||◌, IfOk, OnOk};
 
+use crate::lone_stitches::last_or;
 use design_model::Memory;
-use drawing_repairs::last_or;
 use line_sections::{Line, Spot};
 use std::alloc::Global;
 use std::collections::HashSet;

@@ -4,6 +4,7 @@
 mod best;
 mod best_choices;
 mod junction_spots;
+mod lone_stitches;
 mod point_choice;
 mod spaced_answers;
 mod spaced_drawing;
