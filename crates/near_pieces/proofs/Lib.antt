@@ -1,4 +1,12 @@
 pub mod Names
+pub mod NodeLemmas
+pub mod MoveLemmas
 pub mod RunLemmas
 pub mod NearLemmas
+pub mod PieceSpanLemmas
+pub mod PieceOrderLemmas
+pub mod WalkCostLemmas
+pub mod SameWalkLemmas
+mod TravelFacts
 mod NearFacts
+mod NearLawFacts

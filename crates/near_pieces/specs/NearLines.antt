@@ -4,7 +4,7 @@ use Rattle.design_model.specs.declared.point.Point.{Point}
 use Rattle.line_graph.specs.declared.piece.Piece.{Piece}
 use Rattle.line_sections.specs.declared.spot.Spot.{Spot}
 use Rattle.line_sections.specs.Lines.{LineValue}
-use Rattle.near_orders.specs.VisitOrders.{IsNearOrder}
+use Rattle.near_pieces.specs.VisitOrders.{IsNearOrder}
 use Rattle.near_pieces.specs.PiecePlaces.{needle_after, place_of, starts_of}
 use Rattle.near_pieces.specs.PieceRuns.{block_runs}
 

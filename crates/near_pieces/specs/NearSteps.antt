@@ -3,7 +3,7 @@
 use Rattle.std.specs.Prelude.{◌≡◌, ℕ, List, ◌++◌, Option, Some, map}
 use Rattle.line_graph.specs.declared.piece.Piece.{Piece}
 use Rattle.line_sections.specs.Lines.{LineValue}
-use Rattle.near_orders.specs.VisitOrders.{IsNearOrder}
+use Rattle.near_pieces.specs.VisitOrders.{IsNearOrder}
 use Rattle.near_pieces.specs.declared.near_lines.NearLines.{NearLines}
 use Rattle.near_pieces.specs.NearLines.{lines_in_run, lines_of, needle_after_run, starts_in_run}
 use Rattle.near_pieces.specs.PiecePlaces.{needle_after, place_of, starts_of}

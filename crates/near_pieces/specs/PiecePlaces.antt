@@ -7,8 +7,8 @@ use Rattle.line_graph.specs.declared.piece.Piece.{Piece}
 use Rattle.line_graph.specs.PieceGraphs.{given_end, given_start}
 use Rattle.line_graph.specs.PiecesOfDrawings.{graph_of}
 use Rattle.line_sections.specs.declared.spot.Spot.{Spot}
-use Rattle.near_orders.specs.declared.visit.Visit.{Visit}
-use Rattle.near_orders.specs.Visits.{entry_from, exit_from}
+use Rattle.near_pieces.specs.declared.visit.Visit.{Visit}
+use Rattle.near_pieces.specs.Visits.{entry_from, exit_from}
 
 -- The point of a junction.
 abbrev pub point_numbered : List Point → ℕ → Point

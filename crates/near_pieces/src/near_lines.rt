@@ -3,11 +3,12 @@ ghost use Rattle.near_pieces.specs.NearSteps.{IsRunPut, if_put, piece_put, run_p
 ghost use Rattle.near_pieces.specs.PiecePlaces.{starts_between};
 ghost use Rattle.std.specs.Prelude.{◌≡◌, ◌≤◌, ◌++◌, ◌∷◌, [], IfOk, None, OnOk, length, slice_get};
 
+use crate::ordering::order_visits;
 use crate::piece_places::{junction_at, place_of_piece, places_of};
 use crate::piece_runs::first_run;
+use crate::travelling::{entry, exit};
 use design_model::{Items, Memory, Point, Points};
 use line_graph::{Line, Piece, Spot};
-use near_orders::{entry, exit, order_visits};
 use std::alloc::Global;
 
 /// The lines and the starts of pieces in an order, and where the needle is after them, in tenths of a millimetre.

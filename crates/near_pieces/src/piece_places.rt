@@ -2,9 +2,9 @@ ghost use Rattle.line_graph.specs.PiecesOfDrawings.{graph_of};
 ghost use Rattle.near_pieces.specs.PiecePlaces.{place_between, place_of, point_numbered};
 ghost use Rattle.std.specs.Prelude.{◌≡◌, IfOk, drop, map, option_map};
 
+use crate::visit::Visit;
 use design_model::{Items, Memory, Point, Points};
 use line_graph::Piece;
-use near_orders::Visit;
 use std::alloc::Global;
 
 /// Returns pieces as places to be visited.

@@ -1,4 +1,0 @@
-pub mod Names
-pub mod NodeLemmas
-pub mod MoveLemmas
-mod TravelFacts

@@ -1,0 +1,18 @@
+ghost use Rattle.near_pieces.specs.NearPieceLaws.{ClosedWalksBeginAnywhere, NearPiecesStay, SameGraphsHaveSameCosts, SameLinesHaveSameGraph};
+
+use line_graph::spots_are_connected;
+
+/// Theorem: near lines have the pieces of the drawing, each with its lines in their order.
+pub fn near_pieces_stay()
+    ensures { NearPiecesStay }
+{
+    spots_are_connected();
+}
+
+/// Theorem: pieces with the same lines have the same graph, with which walks have the same costs; and a closed walk may
+/// begin at any junction, at the same cost.
+pub fn near_pieces_keep_costs()
+    ensures graph { SameLinesHaveSameGraph }
+    ensures costs { SameGraphsHaveSameCosts }
+    ensures anywhere { ClosedWalksBeginAnywhere }
+{}
