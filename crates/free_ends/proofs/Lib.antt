@@ -15,4 +15,8 @@ pub mod TriangleLemmas
 pub mod ChoiceLemmas
 pub mod FoundLemmas
 pub mod OrderLemmas
+pub mod PieceSpotLemmas
+pub mod FreedLemmas
+pub mod TakenLemmas
 mod BestEndFacts
+mod FreedLawFacts

@@ -1,5 +1,5 @@
 -- Starts and ends stay in the order of their blocks where the best ones are added.
-use Rattle.std.proofs.Common.{◌≡◌, ◌<◌, ◌≤◌, ℕ, Bool, true, false, not, nat_lt, List, [], ◌∷◌, ◌++◌, Option, Some, None, IfSome, length, map, take, drop, get_or, slice_get, arith, sym, ◌∙◌, ap, subst}
+use Rattle.std.proofs.Common.{◌≡◌, ◌<◌, ◌≤◌, ℕ, Bool, true, false, not, nat_lt, List, [], ◌∷◌, ◌++◌, Option, Some, None, length, map, take, drop, get_or, slice_get, arith, sym, ◌∙◌, ap, subst}
 use Rattle.std.proofs.lemmas.Bool.{ltb-false, ltb-true}
 use Rattle.drawing_edits.proofs.Names.{position_or_len, IsNonDecreasing, origin, AreInBlockOrder, HasOrderedEnds, Spot, with_spot, drop-map, get_or-map, length-map, map-append, take-map, IsNonDecreasingBy-insert, fails_before_first, passes_at_first, prefix_len-le-length, insert}
 use Rattle.design_model.specs.declared.point.Point.{Point}
@@ -75,13 +75,11 @@ ends_kept is_start spots (p ∷ ps) (f ∷ fs) rise =
     (end_kept is_start spots (graph_of p) (ends_found f) rise)
 
 -- the drawing that is made has them in order
-pub ordered_if : (joined : Option DrawingValue) (is_starts is_ends starts ends : List Spot) (pieces others : List Piece)
+pub ordered_with : (d : DrawingValue) (is_starts is_ends starts ends : List Spot) (pieces others : List Piece)
     (founds more : List PieceEnds)
     → AreInBlockOrder starts → AreInBlockOrder ends → is_starts ≡ with_best_ends true starts pieces founds
-    → is_ends ≡ with_best_ends false ends others more → IfSome joined (λ new. new.starts ≡ is_starts)
-    → IfSome joined (λ new. new.ends ≡ is_ends) → IfSome joined HasOrderedEnds
-ordered_if None is_starts is_ends starts ends pieces others founds more one two three four five six = tt
-ordered_if (Some d) is_starts is_ends starts ends pieces others founds more one two three four five six = record {
+    → is_ends ≡ with_best_ends false ends others more → d.starts ≡ is_starts → d.ends ≡ is_ends → HasOrderedEnds d
+ordered_with d is_starts is_ends starts ends pieces others founds more one two three four five six = record {
   starts = subst AreInBlockOrder (sym (five ∙ three)) (ends_kept true starts pieces founds one);
   ends = subst AreInBlockOrder (sym (six ∙ four)) (ends_kept false ends others more two);
 }

@@ -1,13 +1,14 @@
 ghost use Rattle.drawing_edits.specs.PlacedEnds.{with_spot};
-ghost use Rattle.free_ends.specs.FreedDrawings.{IsFreed, IsWholeOf, joined_with, made_of};
+ghost use Rattle.free_ends.specs.FreedDrawings.{IsFreed, IsWholeOf, joined_with};
 ghost use Rattle.free_ends.specs.PieceEnds.{one_end, with_best_end, with_best_ends, with_point_spot};
 ghost use Rattle.line_graph.specs.EndOrders.{HasOrderedEnds};
 ghost use Rattle.line_graph.specs.PiecesOfDrawings.{graph_of};
 ghost use Rattle.line_graph.specs.WalkEnds.{HasNoEnds};
 ghost use Rattle.std.specs.List.{position_or_len};
-ghost use Rattle.std.specs.Prelude.{◌≡◌, ◌≤◌, IfOk, IfSome, OnOk, length, nat_lt, slice_get};
+ghost use Rattle.std.specs.Prelude.{◌≡◌, ◌≤◌, IfOk, Ok, OnOk, is_ok, length, nat_lt, slice_get, true};
 
 use crate::end_choice::WalkEnds;
+use crate::free_theorems::found_ends_are_taken;
 use crate::piece_ends::{PieceEnds, ends_of_pieces};
 use design_model::{Items, Memory, Point};
 use drawing_edits::joined_with_ends;
@@ -15,12 +16,12 @@ use line_graph::{DrawKind, Drawing, Piece, Pieces, Spot, pieces};
 use std::alloc::Global;
 
 /// A drawing whose pieces without start and end get the best ones: its pieces, what is found of their ends,
-/// and the drawing with these ends, or none where it can't have them.
+/// and the drawing with these ends.
 #[derive(Drop)]
 pub struct FreedDrawing {
     pub pieces: Pieces,
     pub found: Items<PieceEnds>,
-    pub joined: Option<Drawing>,
+    pub joined: Drawing,
 }
 
 /// Returns the freed drawing of lines as they are drawn, and of the drawing that they are joined to. The only
@@ -28,10 +29,13 @@ pub struct FreedDrawing {
 pub fn free(alloc: Global, drawn: &Drawing, before: &Drawing) -> Result<FreedDrawing, Memory>
     requires no_ends { HasNoEnds drawn.now }
     requires ordered { HasOrderedEnds before.now }
+    requires whole { IsWholeOf drawn.now before.now }
     ensures freed { IfOk result (IsFreed drawn.now before.now) }
-    ensures whole { IfOk result (λ freed. IfSome freed.joined (IsWholeOf drawn.now)) }
-    ensures ordered { IfOk result (λ freed. IfSome freed.joined HasOrderedEnds) }
+    ensures whole { IfOk result (λ freed. IsWholeOf drawn.now freed.joined) }
+    ensures ordered { IfOk result (λ freed. HasOrderedEnds freed.joined) }
 {
+    before.keeps_limits();
+    found_ends_are_taken();
     let pieces = pieces(alloc, before)?;
     let found = ends_of_pieces(alloc, pieces.as_slice())?;
     let starts = best_spots(
@@ -48,7 +52,7 @@ pub fn free(alloc: Global, drawn: &Drawing, before: &Drawing) -> Result<FreedDra
         pieces.as_slice(),
         found.as_slice(),
     )?;
-    let joined = joined_if(alloc, drawn, starts.as_slice(), ends.as_slice())?;
+    let joined = joined_with_taken(alloc, drawn, starts.as_slice(), ends.as_slice())?;
     Ok(FreedDrawing {
         pieces,
         found,
@@ -56,23 +60,24 @@ pub fn free(alloc: Global, drawn: &Drawing, before: &Drawing) -> Result<FreedDra
     })
 }
 
-/// Returns the lines as they are drawn, joined, with starts and ends, or none where they have a fault.
-fn joined_if(
+/// Returns the lines as they are drawn, joined with starts and ends that they can have.
+fn joined_with_taken(
     alloc: Global,
     drawn: &Drawing,
     starts: &[Spot],
     ends: &[Spot],
-) -> Result<Option<Drawing>, Memory>
-    requires { HasNoEnds drawn.now }
-    ensures made { IfOk result (λ joined. joined ≡ made_of (joined_with drawn.now starts.now ends.now)) }
-    ensures whole { IfOk result (λ joined. IfSome joined (IsWholeOf drawn.now)) }
-    ensures starts { IfOk result (λ joined. IfSome joined (λ new. new.starts ≡ starts.now)) }
-    ensures ends { IfOk result (λ joined. IfSome joined (λ new. new.ends ≡ ends.now)) }
+) -> Result<Drawing, Memory>
+    requires no_ends { HasNoEnds drawn.now }
+    requires taken { is_ok (joined_with drawn.now starts.now ends.now) ≡ true }
+    ensures made { IfOk result (λ new. joined_with drawn.now starts.now ends.now ≡ Ok new) }
+    ensures whole { IfOk result (IsWholeOf drawn.now) }
+    ensures starts { IfOk result (λ new. new.starts ≡ starts.now) }
+    ensures ends { IfOk result (λ new. new.ends ≡ ends.now) }
 {
     match joined_with_ends(alloc, drawn, starts, ends) {
-        Ok(joined) => Ok(Some(joined)),
+        Ok(joined) => Ok(joined),
         Err(DrawKind::Memory) => Err(Memory),
-        Err(_) => Ok(None),
+        Err(_) => unreachable!(),
     }
 }
 
