@@ -1,9 +1,15 @@
 -- Rows of a piece and moats over its odd junctions are an input of lifting whose cuts are a packing.
 use Rattle.std.proofs.Common.{◌≡◌, ℕ, ◌+◌, ◌*◌, ◌%◌, ◌<◌, ◌≤◌, List, [], ◌∷◌, length, Vec, Global, All, Bool, drop, true, false, not, ◌&&◌, get_or, Some, slice_get, arith, refl, sym, ◌∙◌, ap, subst}
-use Rattle.cut_certificate.proofs.Names.{nat_tests, All-weaker, slice_get_read, if◌then◌else◌, count_by, Moat, IsOddMoat, moat_load, Edge, PieceValue, RowsValue, cost_at, length_in, terminal_of, Cut, has_member, load_on, LiftInput, lift_input, width_sum, AreLiftableMoats, IsLifted, AddsCuts, AreCutsTo, IsPlainCut, HasRowsForMoats, AreDistancesFrom, is_sum_by, slice_get-get_or, crosses_moat, MAX_LINES, IsOddCut, AreAllMoatDistances}
+use Rattle.cut_certificate.proofs.Names.{nat_tests, All-weaker, slice_get_read, if◌then◌else◌, count_by, Moat, IsOddMoat, moat_load, Edge, PieceValue, RowsValue, cost_at, length_in, terminal_of, Cut, has_member, load_on, LiftInput, lift_input, width_sum, AreLiftableMoats, IsLifted, AddsCuts, AreCutsTo, IsPlainCut, HasRowsForMoats, AreDistancesFrom, is_sum_by, slice_get-get_or, crosses_moat, MAX_LINES, IsOddCut, AreAllMoatDistances, odd_junctions}
 use Rattle.line_graph.specs.ValidPieces.{IsValidPiece}
 use Rattle.odd_paths.specs.CostTheorems.{AreDistances}
+use Rattle.line_graph.specs.PieceGraphs.{is_odd_junction}
+use Rattle.std.proofs.lemmas.List.FromFn.{length-range_with_len}
+use Rattle.std.proofs.lemmas.List.Sums.{count_by-le-length, length-filter}
+use Rattle.std.specs.List.{range_with_len}
 use Rattle.cut_certificate.proofs.ClimbLemmas.{carries}
+use Rattle.cut_certificate.proofs.InnerLevelLemmas.{few_inners}
+use Rattle.cut_certificate.proofs.MoatCountLemmas.{few_moats}
 use Rattle.cut_certificate.proofs.HeldLemmas.{as_many}
 use Rattle.cut_certificate.proofs.LaminarLemmas.{below, differ, held_below, laminar, of_all}
 use Rattle.cut_certificate.proofs.LiftLemmas.{AreCutsOf, AreLifted, IsMade, all_lifted, as_moat}
@@ -78,6 +84,34 @@ odd_cut p rows moats law are c made =
       odd = ap (λ (ts : List ℕ). count_by (has_member c.members) ts % 2) (sym are.terminals) ∙ ap (λ (k : ℕ). k % 2) many ∙ moat.odd;
     }
 
+some_of : (n : ℕ) → n % 2 ≡ 1 → 1 ≤ n
+some_of n odd = omega (arith, odd)
+
+-- there are no more terminals than junctions
+few_terminals : (p : PieceValue) (rows : RowsValue) → rows.terminals ≡ odd_junctions p → length rows.terminals ≤ length p.junctions
+few_terminals p rows are = omega (
+  arith,
+  ap (λ (ts : List ℕ). length ts) are,
+  length-filter (is_odd_junction p) (range_with_len 0 (length p.junctions)),
+  count_by-le-length (is_odd_junction p) (range_with_len 0 (length p.junctions)),
+  length-range_with_len 0 (length p.junctions),
+)
+
+-- there are at most two cuts for each terminal, and one for each junction
+few_cuts : (p : PieceValue) (rows : RowsValue) (moats : List Moat) (cuts : List Cut) → AreDistances p → AreLiftableMoats p rows moats
+    → AreLifted (piece_site p rows moats) [] cuts → length cuts ≤ 3 * length p.junctions
+few_cuts p rows moats cuts law are l =
+    let g = piece_site p rows moats in
+    let f = fits p rows moats law are in
+    omega (
+      arith,
+      l.few,
+      few_inners g f,
+      few_moats g f (λ m is. let moat = of_all (IsOddMoat (length rows.terminals)) moats m are.odd is in
+          (differ m.members moat.different, some_of (length m.members) moat.odd)),
+      few_terminals p rows are.terminals,
+    )
+
 -- the cuts of all moats are what lifting is to bring out
 lifted : (p : PieceValue) (rows : RowsValue) (moats : List Moat) (cuts : List Cut) → IsValidPiece p → AreDistances p
     → AreLiftableMoats p rows moats → AreLifted (piece_site p rows moats) [] cuts → IsLifted p moats cuts
@@ -87,6 +121,7 @@ lifted p rows moats cuts kept law are l = record {
     loads = loads p rows moats cuts kept law are l;
   };
   total = omega (arith, l.total);
+  few = few_cuts p rows moats cuts law are l;
   plain = All-weaker (IsMade (piece_site p rows moats)) IsPlainCut (λ c made. record { heavy = made.heavy; rising = made.rising }) cuts
       l.each;
 }

@@ -1,6 +1,6 @@
 -- A cut holds as many odd junctions as its moat has members, and nested moats of different sets have different sizes.
-use Rattle.std.proofs.Common.{◌≡◌, ◌≢◌, ℕ, suc, ◌+◌, ◌<◌, ◌≤◌, ◌⊎◌, List, [], ◌∷◌, length, Bool, true, false, cond, ◌||◌, ◌==◌, arith, inl, inr, refl, sym, ◌∙◌, ap, subst}
-use Rattle.cut_certificate.proofs.Names.{nat_tests, both_ways, cases_Bool, cases_eq, cases_lt, eq-eqb, eqb-true, ne_eqb, or_cases, count_by, if◌then◌else◌, slice_index, Moat, has_member, is_count_by}
+use Rattle.std.proofs.Common.{◌≡◌, ◌≢◌, ℕ, suc, ◌+◌, ◌<◌, ◌≤◌, ◌⊎◌, List, [], ◌∷◌, length, replicate, Bool, true, false, cond, ◌||◌, ◌==◌, arith, inl, inr, refl, sym, ◌∙◌, ap, subst}
+use Rattle.cut_certificate.proofs.Names.{nat_tests, both_ways, cases_Bool, cases_eq, cases_lt, eq-eqb, eqb-true, ne_eqb, or_cases, count_by, if◌then◌else◌, slice_index, Moat, has_member, is_count_by, length-replicate}
 use Rattle.cut_certificate.proofs.MoatLemmas.{Apart, Disjoint}
 use Rattle.cut_certificate.proofs.LevelLemmas.{at_front}
 
@@ -69,6 +69,25 @@ tally_all [] ts differ in_n = tally_none 0 ts
 tally_all (x ∷ xs) ts differ in_n =
     omega (arith, tally_one 0 x xs ts (omega arith) (omega (arith, in_n.0)) differ.0, tally_all xs ts differ.1 in_n.1)
 
+tally_most : (k : ℕ) (xs ts : List ℕ) → tally k xs ts ≤ length ts
+tally_most k xs [] = omega arith
+tally_most k xs (t ∷ ts) = elim (cases_Bool (has_member xs k)) [
+  | inl has ↦ rw has (omega (arith, tally_most (k + 1) xs ts))
+  | inr misses ↦ rw misses (omega (arith, tally_most (k + 1) xs ts))
+]
+
+-- different numbers below n are at most n
+pub few_different : (n : ℕ) (xs : List ℕ) → Differ xs → Below n xs → length xs ≤ n
+few_different n xs differ in_n =
+    let zeros : List ℕ = replicate n 0 in
+    let sized : length zeros ≡ n = length-replicate n 0 in
+    omega (
+      arith,
+      tally_all xs zeros differ (subst (λ (k : ℕ). Below k xs) (sym sized) in_n),
+      tally_most 0 xs zeros,
+      sized,
+    )
+
 -- a cut that holds the junctions of a moat's members holds as many of them
 pub as_many : (members xs ts : List ℕ) → ((u : ℕ) → u < length ts → has_member members (slice_index ts u) ≡ has_member xs u) → Differ xs
     → Below (length ts) xs → count_by (has_member members) ts ≡ length xs
@@ -110,6 +129,16 @@ behind x t xs h = grind (arith, nat_tests)
 
 rest_part : (x : ℕ) (xs ys : List ℕ) → has_member xs x ≡ false → IsPart (x ∷ xs) ys → IsPart xs (remove x ys)
 rest_part x xs ys none part t h = grind (arith, nat_tests, remove_other, both_ways, behind)
+
+-- a part is no longer
+pub no_longer : (xs ys : List ℕ) → Differ xs → IsPart xs ys → length xs ≤ length ys
+no_longer [] ys differ part = omega arith
+no_longer (x ∷ xs) ys differ part =
+    omega (
+      arith,
+      remove_length x ys (part x (at_front x xs)),
+      no_longer xs (remove x ys) differ.1 (rest_part x xs ys differ.0 part),
+    )
 
 -- a part that is no shorter is all
 all_of : (xs ys : List ℕ) → Differ xs → IsPart xs ys → length ys ≤ length xs → IsPart ys xs

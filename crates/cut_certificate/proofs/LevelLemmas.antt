@@ -85,10 +85,10 @@ abbrev IsSmallest : (Moat → Bool) → List Moat → Type 0
 IsSmallest p ms = (s : Moat) × IsOf ms s × (p s ≡ true) × ((m : Moat) → IsOf ms m → p m ≡ true → length s.members ≤ length m.members)
 
 -- no moat passes
-abbrev NonePasses : (Moat → Bool) → List Moat → Type 0
+abbrev pub NonePasses : (Moat → Bool) → List Moat → Type 0
 NonePasses p ms = (m : Moat) → IsOf ms m → p m ≡ false
 
-none_here : (p : Moat → Bool) (x : Moat) (xs : List Moat) → p x ≡ false → NonePasses p xs → NonePasses p (x ∷ xs)
+pub none_here : (p : Moat → Bool) (x : Moat) (xs : List Moat) → p x ≡ false → NonePasses p xs → NonePasses p (x ∷ xs)
 none_here p x xs e f m (inl same) = subst (λ (y : Moat). p y ≡ false) (sym same) e
 none_here p x xs e f m (inr is) = f m is
 

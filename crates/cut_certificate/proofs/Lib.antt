@@ -5,9 +5,11 @@ mod OverlapLemmas
 mod ClimbLemmas
 mod MoatCutLemmas
 mod HeldLemmas
+mod MoatCountLemmas
 mod LaminarLemmas
 mod TerminalStateLemmas
 mod MoatDistanceLemmas
+mod InnerLevelLemmas
 mod ProgressLemmas
 mod WayLemmas
 mod LiftLemmas

@@ -1,7 +1,9 @@
 -- The cuts of all moats, moat by moat.
 use Rattle.std.proofs.Common.{◌≡◌, ℕ, zero, suc, ◌+◌, ◌-◌, ◌<◌, ◌≤◌, min, List, [], ◌∷◌, length, All, drop, get_or, add-one, drop-cons, true, nat_le, arith, inl, inr, refl, sym, ◌∙◌, ap, subst}
 use Rattle.cut_certificate.proofs.Names.{nat_tests, cases_Bool, le-leb, All-weaker, if◌then◌else◌, slice_index, Moat, width_of, Edge, is_strictly_increasing, Cut, crosses, has_member, load_on, total_weight, LiftInput, level, AddsCuts, AreCutsTo, IsLevelCut, distance_between, AreDistancesFrom, lt-leb, drop_all, All-append, sum_by-append, sum_by-cons}
+use Rattle.std.proofs.lemmas.List.{length-append}
 use Rattle.cut_certificate.proofs.ClimbLemmas.{climb}
+use Rattle.cut_certificate.proofs.InnerLevelLemmas.{few_inner, inners}
 use Rattle.cut_certificate.proofs.LevelLemmas.{insider, outsider}
 use Rattle.cut_certificate.proofs.MoatCutLemmas.{member_at, members_below, members_rise}
 use Rattle.cut_certificate.proofs.MoatLemmas.{Fits, IsOf}
@@ -24,6 +26,7 @@ pub record AreLifted (g : LiftInput) (rest : List Moat) (cuts : List Cut) : Type
       → load_on cuts e + (climb g e.a e.b rest + climb g e.b e.a rest) ≡ climb g e.a e.b g.moats + climb g e.b e.a g.moats
   pub total : total_weight cuts + width_of rest ≡ width_of g.moats
   pub each : All (IsMade g) cuts
+  pub few : length cuts + (length rest + inners g rest) ≤ length g.moats + inners g g.moats
 
 -- the cuts of one moat, by the distances from it
 pub record AreCutsOf (g : LiftInput) (s : Moat) (cuts : List Cut) : Type 0 where
@@ -70,6 +73,13 @@ more_lifted g s after old new is_s l a = record {
       (All-append (IsMade g) old a.more l.each
       (All-weaker (IsLevelCut a.kind.reach s.width) (IsMade g) (λ c cut. made g s a.kind.reach c is_s a.kind.is cut) a.more
       a.kind.cuts_are.each));
+  few = omega (
+    arith,
+    ap (λ (cs : List Cut). length cs) a.is,
+    length-append old a.more,
+    few_inner g s a.kind.reach (length a.more) a.kind.is a.kind.cuts_are.few,
+    l.few,
+  );
 }
   where
     loads : (e : Edge) → e.a < g.size → e.b < g.size

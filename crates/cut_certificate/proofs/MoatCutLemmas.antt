@@ -1,6 +1,8 @@
 -- The cuts of one moat, level by level at which a junction enters.
-use Rattle.std.proofs.Common.{◌≡◌, ℕ, zero, suc, ◌+◌, ◌-◌, ◌<◌, ◌≤◌, ◌⊎◌, min, List, [], ◌∷◌, ◌++◌, length, All, Bool, true, false, not, ◌==◌, nat_le, append_assoc, arith, inl, inr, refl, sym, ◌∙◌, ap}
-use Rattle.cut_certificate.proofs.Names.{nat_tests, and_from, eq-eqb, le-leb, All-weaker, if◌then◌else◌, slice_index, Edge, is_strictly_increasing, Cut, crosses, has_member, load_on, AddsCuts, AreCutsTo, IsLevelCut, distance_between, members_from, All-nil, All-push, sum_by_push, all_greater}
+use Rattle.std.proofs.Common.{◌≡◌, ℕ, zero, suc, ◌+◌, ◌-◌, ◌<◌, ◌≤◌, ◌⊎◌, min, List, [], ◌∷◌, ◌++◌, length, All, Bool, true, false, not, ◌==◌, ◌&&◌, nat_le, nat_lt, append_assoc, arith, inl, inr, refl, sym, ◌∙◌, ap, subst}
+use Rattle.std.proofs.lemmas.List.{length_push}
+use Rattle.cut_certificate.specs.MoatCuts.{IsLevelOf, levels_below}
+use Rattle.cut_certificate.proofs.Names.{nat_tests, and_from, cases_lt, eq-eqb, le-leb, All-weaker, if◌then◌else◌, slice_index, Edge, is_strictly_increasing, Cut, crosses, has_member, load_on, AddsCuts, AreCutsTo, IsLevelCut, distance_between, members_from, All-nil, All-push, sum_by_push, all_greater}
 
 none_before : (k h j : ℕ) (es : List ℕ) → j < k → has_member (members_from k h es) j ≡ false
 none_before k h j [] lt = refl
@@ -67,14 +69,60 @@ one_load e c from w levels is weight in_a in_b = grind (arith, nat_tests, member
 one_load_on : (cs : List Cut) (c : Cut) (e : Edge) → load_on (cs ++ c ∷ []) e ≡ load_on cs e + (if crosses c.members e then c.weight else 0)
 one_load_on cs c e = sum_by_push (λ (cut : Cut). if crosses cut.members e then cut.weight else 0) cs c
 
-next_cut : (levels : List ℕ) (from next : ℕ) (cs : List Cut) (c : Cut) → AreCutsTo levels from cs → from < next
+-- fewer levels are below a lower top
+fewer_below : (a b : ℕ) (ls : List ℕ) → a ≤ b → levels_below a ls ≤ levels_below b ls
+fewer_below a b [] le = omega arith
+fewer_below a b (l ∷ ls) le = omega (arith, one a b l le, fewer_below a b ls le)
+  where
+    one : (a b l : ℕ) → a ≤ b → (if nat_lt 0 l && nat_lt l a then 1 else 0) ≤ (if nat_lt 0 l && nat_lt l b then 1 else 0)
+    one a b l le = grind (arith, nat_tests)
+
+none_below : (ls : List ℕ) → levels_below 0 ls ≡ 0
+none_below [] = refl
+none_below (l ∷ ls) = grind (arith, nat_tests, none_below ls)
+
+-- one more is below the next level
+one_more_below : (from next j : ℕ) (ls : List ℕ) → 0 < from → from < next → j < length ls → slice_index ls j ≡ from
+    → 1 + levels_below from ls ≤ levels_below next ls
+one_more_below from next j [] some lt there is = absurd (omega (arith, there))
+one_more_below from next zero (l ∷ ls) some lt there is = omega (
+  arith,
+  here from next l some lt is,
+  fewer_below from next ls
+      (omega (arith, lt)),
+)
+  where
+    here : (from next l : ℕ) → 0 < from → from < next → l ≡ from
+        → 1 + (if nat_lt 0 l && nat_lt l from then 1 else 0) ≤ (if nat_lt 0 l && nat_lt l next then 1 else 0)
+    here from next l some lt is = grind (arith, nat_tests)
+one_more_below from next (suc j) (l ∷ ls) some lt there is =
+    omega (arith, one_level from next l (omega (arith, lt)), one_more_below from next j ls some lt (omega (arith, there)) is)
+  where
+    one_level : (a b l : ℕ) → a ≤ b → (if nat_lt 0 l && nat_lt l a then 1 else 0) ≤ (if nat_lt 0 l && nat_lt l b then 1 else 0)
+    one_level a b l le = grind (arith, nat_tests)
+
+-- the number of cuts, with one more up to the next level
+few_next : (levels : List ℕ) (from next count : ℕ) → (from ≡ 0) ⊎ IsLevelOf levels from → from < next
+    → count ≤ (if nat_lt 0 from then 1 else 0) + levels_below from levels
+    → count + 1 ≤ (if nat_lt 0 next then 1 else 0) + levels_below next levels
+few_next levels from next count (inl none) lt few = grind (arith, nat_tests, none_below)
+few_next levels from next count (inr there) lt few = elim (cases_lt 0 from) [
+  | inl some ↦
+      let more = one_more_below from next there.0 levels some lt there.1 there.2 in
+      grind (arith, nat_tests)
+  | inr none ↦ grind (arith, nat_tests, none_below)
+]
+
+next_cut : (levels : List ℕ) (from next : ℕ) (cs : List Cut) (c : Cut) → AreCutsTo levels from cs → (from ≡ 0) ⊎ IsLevelOf levels from
+    → from < next
     → ((j : ℕ) → j < length levels → (slice_index levels j ≤ from) ⊎ (next ≤ slice_index levels j))
     → c.members ≡ members_from 0 from levels → c.weight ≡ next - from → AreCutsTo levels next (cs ++ c ∷ [])
-next_cut levels from next cs c made lt gap is weight = record {
+next_cut levels from next cs c made at lt gap is weight = record {
   loads = loads;
   total = omega (arith, sum_by_push (λ (cut : Cut). cut.weight) cs c, made.total);
   each = All-push (IsLevelCut levels next) cs c (All-weaker (IsLevelCut levels from) (IsLevelCut levels next) kept cs made.each)
       (record { limit = from; low = lt; heavy = omega arith; members = is });
+  few = omega (arith, few_next levels from next (length cs) at lt made.few, length_push cs c);
 }
   where
     loads : (e : Edge) → e.a < length levels → e.b < length levels
@@ -91,10 +139,39 @@ next_cut levels from next cs c made lt gap is weight = record {
 
 -- one more cut, up to the next level
 pub next_cuts : (levels : List ℕ) (from next : ℕ) (old now new : List Cut) (c : Cut) → AddsCuts (AreCutsTo levels from) old now
-    → from < next → ((j : ℕ) → j < length levels → (slice_index levels j ≤ from) ⊎ (next ≤ slice_index levels j))
+    → (from ≡ 0) ⊎ IsLevelOf levels from → from < next → ((j : ℕ) → j < length levels → (slice_index levels j ≤ from)
+    ⊎ (next ≤ slice_index levels j))
     → c.members ≡ members_from 0 from levels → c.weight ≡ next - from → new ≡ now ++ c ∷ [] → AddsCuts (AreCutsTo levels next) old new
-next_cuts levels from next old now new c made lt gap is weight pushed = record {
+next_cuts levels from next old now new c made at lt gap is weight pushed = record {
   more = made.more ++ c ∷ [];
-  kind = next_cut levels from next made.more c made.kind lt gap is weight;
+  kind = next_cut levels from next made.more c made.kind at lt gap is weight;
   is = pushed ∙ ap (λ (l : List Cut). l ++ c ∷ []) made.is ∙ append_assoc old made.more (c ∷ []);
 }
+
+-- one of the first levels
+abbrev IsEarlyLevel : List ℕ → (count level : ℕ) → Type 0
+IsEarlyLevel levels count level = (j : ℕ) × (j < count) × (slice_index levels j ≡ level)
+
+-- the next level so far is the width or one of the first levels, and stays so
+pub same_level : (levels : List ℕ) (count next width new : ℕ) → new ≡ next → (next ≡ width) ⊎ IsEarlyLevel levels count next
+    → (new ≡ width) ⊎ IsEarlyLevel levels (count + 1) new
+same_level levels count next width new is (inl all) = inl (is ∙ all)
+same_level levels count next width new is (inr at) = inr (at.0, omega (arith, at.1), at.2 ∙ sym is)
+
+pub level_after : (levels : List ℕ) (count next width level new : ℕ) → level ≡ slice_index levels count → new ≡ min next level
+    → (next ≡ width) ⊎ IsEarlyLevel levels count next → (new ≡ width) ⊎ IsEarlyLevel levels (count + 1) new
+level_after levels count next width level new at is before = elim (cases_lt next level) [
+  | inl less ↦ same_level levels count next width new (omega (arith, is, less)) before
+  | inr more ↦ inr (count, omega arith, sym at ∙ (let e : level ≡ new = omega (arith, is, more) in e))
+]
+
+-- no level is between, with one more of them
+pub gap_after : (levels : List ℕ) (from count next new : ℕ) → new ≤ next
+    → (slice_index levels count ≤ from) ⊎ (new ≤ slice_index levels count)
+    → ((j : ℕ) → j < count → (slice_index levels j ≤ from) ⊎ (next ≤ slice_index levels j))
+    → (j : ℕ) → j < count + 1 → (slice_index levels j ≤ from) ⊎ (new ≤ slice_index levels j)
+gap_after levels from count next new le here before j lt = elim (cases_lt j count) [
+  | inl less ↦ elim (before j less) [ inl low ↦ inl low | inr high ↦ inr (omega (arith, le, high)) ]
+  | inr more ↦ subst (λ (i : ℕ). (slice_index levels i ≤ from) ⊎ (new ≤ slice_index levels i))
+      (let e : count ≡ j = omega (arith, lt, more) in e) here
+]

@@ -21,8 +21,9 @@ pub record AreLiftableMoats (p : PieceValue) (rows : RowsValue) (moats : List Mo
       → moat_load moats t u ≤ 2 * cost_at rows t (terminal_of rows u)
 
 -- A packing whose total weight is the total width of the moats. Each cut has a weight of at least
--- 1, and its members rise.
+-- 1, and its members rise. There are at most three cuts for each junction.
 pub record IsLifted (p : PieceValue) (moats : List Moat) (cuts : List Cut) : Type 0 where
   pub packing : IsPacking p cuts
   pub total : total_weight cuts ≡ width_of moats
   pub plain : All IsPlainCut cuts
+  pub few : length cuts ≤ 3 * length p.junctions

@@ -1,5 +1,5 @@
 -- The cuts of one moat, by the levels of the junctions. Weights and levels count halves of a step.
-use Rattle.std.specs.Prelude.{◌≡◌, ℕ, ◌+◌, ◌-◌, ◌<◌, ◌≤◌, ◌⊎◌, min, List, [], ◌∷◌, ◌++◌, All, length, nat_le, slice_index, if◌then◌else◌}
+use Rattle.std.specs.Prelude.{◌≡◌, ℕ, ◌+◌, ◌-◌, ◌<◌, ◌≤◌, ◌⊎◌, ◌&&◌, min, List, [], ◌∷◌, ◌++◌, All, length, nat_le, nat_lt, slice_index, if◌then◌else◌}
 use Rattle.odd_cuts.specs.declared.cut.Cut.{Cut}
 use Rattle.odd_cuts.specs.Cuts.{load_on, total_weight}
 use Rattle.line_graph.specs.declared.edge.Edge.{Edge}
@@ -22,6 +22,16 @@ abbrev pub NoneBetween : (from next : ℕ) → List ℕ → Type 0
 NoneBetween from next levels =
     (j : ℕ) → j < length levels → (slice_index levels j ≤ from) ⊎ (next ≤ slice_index levels j)
 
+-- One of the levels.
+abbrev pub IsLevelOf : List ℕ → ℕ → Type 0
+IsLevelOf levels level = (j : ℕ) × (j < length levels) × (slice_index levels j ≡ level)
+
+-- The number of levels above 0 and below the top.
+abbrev pub levels_below : ℕ → List ℕ → ℕ
+levels_below top [] = 0
+levels_below top (level ∷ rest) =
+    (if nat_lt 0 level && nat_lt level top then 1 else 0) + levels_below top rest
+
 -- A cut of the junctions up to a level below the top.
 pub record IsLevelCut (levels : List ℕ) (top : ℕ) (cut : Cut) : Type 0 where
   pub limit : ℕ
@@ -30,13 +40,14 @@ pub record IsLevelCut (levels : List ℕ) (top : ℕ) (cut : Cut) : Type 0 where
   pub members : cut.members ≡ members_from 0 limit levels
 
 -- The cuts of a moat up to the level `top`. Their load on an edge is the distance of the levels of
--- its ends.
+-- its ends. There is one more than levels between 0 and the top, or none.
 pub record AreCutsTo (levels : List ℕ) (top : ℕ) (cuts : List Cut) : Type 0 where
   pub loads : (e : Edge) → e.a < length levels → e.b < length levels
       → load_on cuts e
       ≡ distance_between (min top (slice_index levels e.a)) (min top (slice_index levels e.b))
   pub total : total_weight cuts ≡ top
   pub each : All (IsLevelCut levels top) cuts
+  pub few : length cuts ≤ (if nat_lt 0 top then 1 else 0) + levels_below top levels
 
 -- Cuts of a kind are appended.
 pub record AddsCuts (Kind : List Cut → Type 0) (old new : List Cut) : Type 0 where

@@ -1,6 +1,6 @@
-ghost use Rattle.cut_certificate.specs.MoatCuts.{AddsCuts, AreCutsTo, NoneBetween, members_from};
+ghost use Rattle.cut_certificate.specs.MoatCuts.{AddsCuts, AreCutsTo, IsLevelOf, NoneBetween, members_from};
 ghost use Rattle.line_graph.specs.declared.limits.TheConstants.{MAX_LINES};
-ghost use Rattle.std.specs.Prelude.{◌≡◌, ◌+◌, ◌<◌, ◌≤◌, IfOk, OnOk, length};
+ghost use Rattle.std.specs.Prelude.{◌≡◌, ◌+◌, ◌<◌, ◌≤◌, ◌⊎◌, IfOk, OnOk, length};
 
 use design_model::{Memory, Numbers};
 use odd_cuts::{Cut, Cuts};
@@ -28,6 +28,7 @@ fn next_level(levels: &[u32], from: u32, width: u32) -> u32
     ensures more { from < result }
     ensures most { result ≤ width }
     ensures gap { NoneBetween from result levels.now }
+    ensures level { (result ≡ width) ⊎ IsLevelOf levels.now result }
 {
     let mut next = width;
     for level in levels {

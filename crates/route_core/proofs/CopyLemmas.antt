@@ -1,5 +1,5 @@
 -- Copies at places of a list.
-use Rattle.std.proofs.Common.{◌≡◌, ◌≤◌, ◌<◌, ℕ, zero, suc, ◌+◌, ◌-◌, ◌^◌, List, [], ◌∷◌, length, get_or, slice_get, slice_set, All, arith, refl, ap, subst}
+use Rattle.std.proofs.Common.{◌≡◌, ◌≤◌, ◌<◌, ℕ, zero, suc, ◌+◌, ◌^◌, List, [], ◌∷◌, length, get_or, slice_get, slice_set, All, arith, refl, ap, subst}
 use Rattle.route_core.proofs.Names.{nat_tests, All-head, All-tail, Edge, edge_value, AddsCopies, total_copies, copies_sum, incremented_at}
 
 pub more_is : (cs : List ℕ) (k : ℕ) → slice_set cs k (get_or cs k 0 + 1) ≡ incremented_at cs k

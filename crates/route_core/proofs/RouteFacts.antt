@@ -94,6 +94,11 @@ Certifies p c = (is_fitting_walk p c.walk ≡ true) × (given_start p ≡ None �
 pub known_certificate : (p : PieceValue) (c : PieceCert) → CertifiesLeastWalk p c → Certifies p c
 known_certificate p c is = (is.fitting, is.begins, omega (arith, is.retraced), is.packing, omega (arith, is.total), is.least)
 
+-- no certificate has more passes than steps, or more than three cuts for each junction
+pub known_few : (p : PieceValue) (c : PieceCert) → CertifiesLeastWalk p c
+    → (length c.walk ≡ walk_cost p c.walk + 1 → ⊥) × (length c.cuts ≡ 3 * length p.junctions + 1 → ⊥)
+known_few p c is = (λ more. omega (arith, more, is.few_passes), λ more. omega (arith, more, is.few_cuts))
+
 -- a stroke of four steps, and as many needle points as a walk that returns has
 abbrev stroke : DrawingValue
 stroke = record {

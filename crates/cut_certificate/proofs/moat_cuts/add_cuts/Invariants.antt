@@ -1,4 +1,5 @@
-use Rattle.std.proofs.Common.{◌≤◌, ◌-◌}
+use Rattle.std.proofs.Common.{◌≡◌, ◌≤◌, ◌-◌, ◌⊎◌}
+use Rattle.cut_certificate.specs.MoatCuts.{IsLevelOf}
 use Rattle.cut_certificate.proofs.Names.{AddsCuts, AreCutsTo}
 use Rattle.cut_certificate.proofs.moat_cuts.add_cuts.Given as goal
 
@@ -6,6 +7,7 @@ use Rattle.cut_certificate.proofs.moat_cuts.add_cuts.Given as goal
 abbrev pub invariant-loop-from : goal.invariant-loop-from
 invariant-loop-from l = record {
   most : l.from ≤ l.width;
+  at : (l.from ≡ 0) ⊎ ((l.from ≡ l.width) ⊎ IsLevelOf l.levels l.from);
   made : AddsCuts (AreCutsTo l.levels l.from) l.fn.cuts l.cuts;
 }
 
