@@ -1,10 +1,26 @@
 -- The headline, of files.
-use Rattle.std.proofs.Common.{◌≡◌, ℕ, Bool, true, false, nat_lt, List, [], ◌∷◌, Option, Some, Result, Ok, Err, IsOkAnd, refl, sym, subst}
+use Rattle.std.proofs.Common.{◌≡◌, ◌≤◌, ℕ, length, Bool, true, false, nat_lt, List, [], ◌∷◌, Option, Some, Result, Ok, Err, IsOkAnd, refl, sym, subst}
 use Rattle.stitch_cli.proofs.Names.{AllZip, PieceCert, walks_of, cert_of, acts_of, drawing_of, Loaded, DrawingValue, piece_graph, Sews, Files, Makes, ProductValue, IsLeastPieceRoute, CheckOrder, check_cert, check_design, check_drawing, Order, plan_of, stitch, checking, sewing, IsRouteLeft, IsYesRight, IsSewnProduct, SewingOrder, sewing_by_limit, sewing_read, IsSewnBy, AllFilesHold, WhereVisible, IsDone, IsCorrectPieceCert, OutcomesMeanHeadline, IsParsedMade, parsed_made}
+use Rattle.certificate_text.specs.ReadCertificates.{ReadPiecesCanBePrinted}
+use Rattle.design_model.specs.declared.limits.TheConstants.{MAX_FILE}
 use Rattle.drawing_text.specs.ValidTexts.{TextsDefineValidDrawings}
+use Rattle.line_graph.specs.DrawnWalks.{PiecesAreValid}
+use Rattle.line_graph.specs.SewnWalks.{PiecesKeepLimits}
+use Rattle.odd_cuts.specs.PackingBounds.{BoundsTotal}
 use Rattle.program_shell.specs.RunViews.{Views}
 use Rattle.route_verdict.specs.declared.sewing_ways.Sewing.TheVariants as ways
+use Rattle.stitch_cli.proofs.CertificateLengths.{short_certificate}
 use Rattle.route_verdict.specs.VerdictTheorems.{CorrectRoutesAreAccepted, YesIsLeastRedwork}
+
+-- the theorems that the headline follows from
+pub record HeadlineLaws : Type 0 where
+  pub valid : TextsDefineValidDrawings
+  pub accepted : CorrectRoutesAreAccepted
+  pub redwork : YesIsLeastRedwork
+  pub printed : ReadPiecesCanBePrinted
+  pub pieces : PiecesAreValid
+  pub limits : PiecesKeepLimits
+  pub total : BoundsTotal
 
 -- the certificate of a routed piece is correct
 correct : (d : DrawingValue) (pieces : List (List ℕ)) (certs : List PieceCert) → AllZip (IsLeastPieceRoute d) pieces certs
@@ -45,18 +61,19 @@ route_made order files product made =
     by_limit d false made = made
 
 -- the two files of a route that is made, over visible files
-routed_left : TextsDefineValidDrawings → CorrectRoutesAreAccepted → YesIsLeastRedwork → (order : SewingOrder) (before after : Option Files)
+routed_left : HeadlineLaws → (order : SewingOrder) (before after : Option Files)
     (product : ProductValue) → IsMadeRoute order before product → AllFilesHold after product.outputs
     → WhereVisible before (λ old. WhereVisible after (λ new. IsRouteLeft order old new))
-routed_left valid accepted redwork order before after product is held old were new are =
+routed_left laws order before after product is held old were new are =
     let made = is.sewn in
     let d = is.read.value in
     let routed : IsSewnBy ways.Route order.format d made.files = made.sewn in
     let loaded = value_of (λ (l : Loaded). (l.ended ≡ true) × Sews d (walks_of routed.certs) (acts_of l.design))
     (order.format.reads made.files.design_file) routed.sewn.read in
-    let keeps = (valid is.read.bytes d is.read.is).limits in
-    let yes = accepted d routed.pieces loaded.value.design routed.certs keeps routed.pieces_are
+    let keeps = (laws.valid is.read.bytes d is.read.is).limits in
+    let yes = laws.accepted d routed.pieces loaded.value.design routed.certs keeps routed.pieces_are
     (record { each = correct d routed.pieces routed.certs routed.each; sews = loaded.holds.1 }) in
+    let printed = laws.printed made.files.cert_text routed.certs routed.cert_reads in
     let files = subst (λ (p : ProductValue). AllFilesHold after p.outputs) made.made held in
     record {
       drawing_file = is.read.bytes;
@@ -70,20 +87,23 @@ routed_left valid accepted redwork order before after product is held old were n
       certs = routed.certs;
       say = record { drawn = is.read.is; read = loaded.is; certified = routed.cert_reads };
       ended = loaded.holds.0;
-      least = record { redwork = (redwork d loaded.value.design routed.certs keeps).0 yes; within = routed.sewn.within };
+      least = record { redwork = (laws.redwork d loaded.value.design routed.certs keeps).0 yes; within = routed.sewn.within };
       judged = yes;
+      short = subst (λ (text : List ℕ). length text ≤ MAX_FILE) (sym routed.cert_is)
+          (short_certificate d routed.pieces routed.certs keeps routed.pieces_are laws.pieces laws.limits laws.total routed.each printed.0
+          printed.1);
     }
 
 same_order : (a b : Order) → Some a ≡ Some b → a ≡ b
 same_order a b is = cc
 
-route_done : TextsDefineValidDrawings → CorrectRoutesAreAccepted → YesIsLeastRedwork → (order : SewingOrder) (before after : Views)
+route_done : HeadlineLaws → (order : SewingOrder) (before after : Views)
     → IsDone stitch (Some (sewing ways.Route order)) before after
     → WhereVisible before.store.files (λ old. WhereVisible after.store.files (λ new. IsRouteLeft order old new))
-route_done valid accepted redwork order before after done =
+route_done laws order before after done =
     let same = same_order (sewing ways.Route order) done.order done.is_requested in
     let made = subst (λ (o : Order). Makes (plan_of o) before.store.files done.product) (sym same) done.made in
-    routed_left valid accepted redwork order before.store.files after.store.files done.product
+    routed_left laws order before.store.files after.store.files done.product
     (route_made order before.store.files done.product made) done.wrote.held
 
 check_done : (order : CheckOrder) (before after : Views) → IsDone stitch (Some (checking order)) before after
@@ -110,9 +130,9 @@ check_done order before after done files visible =
       least = cert.made.least;
     }
 
-pub headline_holds : TextsDefineValidDrawings → CorrectRoutesAreAccepted → YesIsLeastRedwork → OutcomesMeanHeadline
-headline_holds valid accepted redwork requested before after s ends = (
-  λ order. λ is. λ done. route_done valid accepted redwork order before after
+pub headline_holds : HeadlineLaws → OutcomesMeanHeadline
+headline_holds laws requested before after s ends = (
+  λ order. λ is. λ done. route_done laws order before after
       (subst (λ (r : Option Order). IsDone stitch r before after) is (ends.done done)),
   λ order. λ is. λ done. check_done order before after (subst (λ (r : Option Order). IsDone stitch r before after) is (ends.done done)),
 )

@@ -18,10 +18,13 @@ mod SampleFacts
 mod WantFacts
 mod RefutedFacts
 mod ProductFacts
+mod PieceSizes
+mod CertificateLengths
 mod HeadlineLemmas
 mod HeadlineFacts
 pub mod SquareRoute
 pub mod SmallestFacts
 pub mod RouteLeftFacts
-mod RefutedRouteFacts
+pub mod RefutedRouteFacts
+mod RefutedRunFacts
 mod StitchRunLemmas

@@ -1,5 +1,5 @@
 -- What the headline keeps out: threads, certificates and files of the square that its records refuse.
-use Rattle.std.proofs.Common.{◌≡◌, ℕ, ◌+◌, true, List, [], ◌∷◌, ◌++◌, Option, Some, None, Ok, bytes_eq, codes, if◌then◌else◌, arith, sym, subst}
+use Rattle.std.proofs.Common.{◌≡◌, ℕ, true, List, [], ◌∷◌, ◌++◌, Option, Some, None, Ok, bytes_eq, codes, if◌then◌else◌, arith, sym, subst}
 use Rattle.std.proofs.lemmas.List.Elements.{All-head}
 use Rattle.dst_codec.specs.Format.{dst_meaning}
 use Rattle.drawing_text.specs.DrawingText.{drawing_of}
@@ -34,7 +34,7 @@ pub known_total_of_nothing : IsLeastThread square piece (record cert { cuts = ev
 known_total_of_nothing is = let one : 1 ≡ 0 = is.total in cc
 
 -- Files in which one of the three is another one, or is missing.
-abbrev with : List ℕ → Option (List ℕ) → Files → Files
+abbrev pub with : List ℕ → Option (List ℕ) → Files → Files
 with name content files other = if bytes_eq other name then content else files other
 
 missing : (bytes : List ℕ) → None ≡ Some bytes → ⊥
@@ -59,7 +59,7 @@ known_yes_without_files = (
 )
 
 -- An empty text says no drawing and no certificate, and an empty file is no design.
-same : (xs ys : List ℕ) → Some xs ≡ Some ys → xs ≡ ys
+pub same : (xs ys : List ℕ) → Some xs ≡ Some ys → xs ≡ ys
 same xs ys is = cc
 
 no_drawing : (bytes : List ℕ) → [] ≡ bytes → (d : _) → drawing_of bytes ≡ Ok d → ⊥

@@ -22,7 +22,7 @@ use Rattle.stitch_cli.specs.Headline.{FilesSay, IsRouteLeft, IsYesRight}
 use Rattle.stitch_cli.specs.Sewings.{SewingOrder}
 use Rattle.stitch_cli.specs.StitchRuns.{stitch_order}
 use Rattle.stitch_cli.proofs.SmallestFacts.{square_redwork}
-use Rattle.stitch_cli.proofs.SquareRoute.{at, cert, cert_file, design, drawing_file, piece, square, square_piece}
+use Rattle.stitch_cli.proofs.SquareRoute.{cert, cert_file, design, drawing_file, piece, square, square_piece}
 
 pub known_drawing : drawing_of drawing_file ≡ Ok square
 known_drawing = refl
@@ -153,6 +153,7 @@ square_is_left = record {
   ended = refl;
   least = record { redwork = square_redwork; within = refl };
   judged = square_is_judged;
+  short = omega arith;
 }
 
 pub square_is_right : IsYesRight yes_order after

@@ -1,9 +1,10 @@
 -- The headline, of files: what `route` leaves, and what the yes of `check` says. The headline over
 -- values is LeastRedwork of route_verdict; a file says its value as the texts of drawings, the
 -- texts of certificates and the format of the design define.
-use Rattle.std.specs.Prelude.{◌≡◌, ℕ, true, List, Option, Some, Ok}
+use Rattle.std.specs.Prelude.{◌≡◌, ◌≤◌, ℕ, true, List, length, Option, Some, Ok}
 use Rattle.odd_cuts.specs.declared.certificate.PieceCert.{PieceCert}
 use Rattle.certificate_text.specs.ReadCertificates.{cert_of}
+use Rattle.design_model.specs.declared.limits.TheConstants.{MAX_FILE}
 use Rattle.drawing_text.specs.DrawingText.{drawing_of}
 use Rattle.format_traits.specs.declared.loaded.Loaded.{Loaded}
 use Rattle.format_traits.specs.Meanings.{Meaning}
@@ -30,7 +31,7 @@ pub record FilesSay (format : Meaning) (drawing_file design_file cert_file : Lis
 
 -- What is left after `route`: the design file, read again, is a least route of the drawing that the
 -- drawing file said, within the limit of its format and to its end, as the certificate file proves.
--- The verdict on the three files is yes.
+-- The verdict on the three files is yes, and the certificate file is no longer than `check` reads.
 pub record IsRouteLeft (order : SewingOrder) (before after : Files) : Type 0 where
   pub drawing_file : List ℕ
   pub design_file : List ℕ
@@ -46,8 +47,11 @@ pub record IsRouteLeft (order : SewingOrder) (before after : Files) : Type 0 whe
   pub least : IsLeastRoute d loaded.design certs order.format.limit
       (order.format.moves design_file)
   pub judged : IsVerdict d loaded.design certs verdict.Yes
+  pub short : length cert_file ≤ MAX_FILE
 
 -- What the yes of `check` says of the three files, whoever made them: the design is least redwork.
+-- Nothing is said of the design's label and threads, of the end of its file and what is after it,
+-- or of the jumps of a loose thread.
 pub record IsYesRight (order : CheckOrder) (files : Files) : Type 0 where
   pub drawing_file : List ℕ
   pub design_file : List ℕ
