@@ -1,17 +1,19 @@
 -- What is proved of each command: its plan decides, and the outputs of its products are the files that it writes.
-use Rattle.std.proofs.Common.{[], ◌∷◌, ◌==◌, ℕ, Bool, true, false, Option, Ok, Err, Result, length}
+use Rattle.std.proofs.Common.{List, [], ◌∷◌, ◌==◌, ℕ, Bool, true, false, Option, Ok, Err, Result, length}
 use Rattle.near_pieces.specs.NearDrawings.{drawn_with}
-use Rattle.drawing_commands.proofs.Names.{DrawingValue, stitch_drawing_after, BadEdit, drawing_edit_read, edited_plan, edits_applied, look_read, DrawingOrder, editing, snap_made, snap_read, space_made, space_read, SnappedDrawing, snap_of, drawing_of, IsSoundPlan, accepts_sound, ends, named, parses_sound, program_sound, refuses_sound, SpacedDrawing, drawing_outputs_of, drawing_plan_of, IsEdited, IsLook, looking, snapping, spacing, telling, IsSnapProduct, IsSpaceProduct, freeing, free_made, free_read, IsFreeProduct, lines_joined, JoinedLines, nearing, near_kept, near_made, near_read, IsNearProduct}
+use Rattle.drawing_commands.proofs.Names.{DrawingValue, stitch_drawing_after, BadEdit, drawing_edit_read, edited_plan, edits_applied, look_read, DrawingOrder, editing, space_made, space_read, drawing_of, IsSoundPlan, accepts_sound, ends, named, parses_sound, program_sound, refuses_sound, SpacedDrawing, drawing_outputs_of, drawing_plan_of, IsEdited, IsLook, looking, spacing, telling, IsSpaceProduct, freeing, free_made, free_read, IsFreeProduct, lines_joined, JoinedLines, nearing, near_made, near_read, IsNearProduct, MetDrawing, IsMeetProduct, meet_made, met_of, meet_read, meeting}
 use Rattle.drawing_text.specs.DrawingLines.{lines_read}
 use Rattle.line_graph.specs.declared.draw_kind.DrawKind.{DrawKind}
-use Rattle.drawing_repairs.specs.declared.snap_fault.SnapFault.{SnapFault}
-use Rattle.companion_words.specs.MistakenWords.{MistakenWord}
-use Rattle.companion_words.specs.UsageTexts.{usage_with}
+use Rattle.met_drawings.specs.declared.meet_fault.MeetFault.{MeetFault}
+use Rattle.program_texts.specs.MistakenWords.{MistakenWord}
+use Rattle.program_texts.specs.CompanionUsage.{usage_with}
 use Rattle.drawing_commands.specs.Usage.{drawing_program_name, drawing_usage_text}
+use Rattle.drawing_commands.specs.VersionOne.{plan_if_kept}
 use Rattle.outside_io.specs.Views.{SinkView, StoreView}
 use Rattle.program_shell.specs.ExactPlans.{IsSoundProgram}
 use Rattle.program_shell.specs.FinishedRuns.{FinishesRun}
 use Rattle.program_shell.specs.ProgramRuns.{RunEnds}
+use Rattle.program_shell.specs.Plans.{Plan}
 use Rattle.program_shell.specs.RunViews.{Views, views_of}
 use Rattle.program_shell.specs.StepOutcomes.{RunsRequest}
 use Rattle.program_shell.specs.declared.failure.Failure.{Failure}
@@ -19,17 +21,23 @@ use Rattle.program_shell.specs.declared.product.Product.{Product}
 use Rattle.program_shell.specs.declared.status.Status.{Status}
 use Rattle.spaced_lines.specs.SpacedDrawings.{space_of}
 
+-- A plan that refuses a drawing whose lines would be cut is sound where the next one is.
+kept_sound : (outputs : List (List ℕ)) (name : List ℕ) (next : Plan) (is : Bool) → IsSoundPlan outputs next
+    → IsSoundPlan outputs (plan_if_kept name next is)
+kept_sound outputs name next true sound = sound
+kept_sound outputs name next false sound = refuses_sound outputs _
+
 -- The plan of each order is sound.
 order_sound : (order : DrawingOrder) → IsSoundPlan (drawing_outputs_of order) (drawing_plan_of order)
 order_sound (looking order) = parses_sound [] order.file lines_read (look_read order)
     (λ read. accepts_sound [] (IsLook order.gap read.drawing read.drawn) (λ product is. named product _ is.made))
     (λ fault. refuses_sound [] _)
-order_sound (snapping order) = parses_sound (order.output ∷ []) order.input lines_read (snap_read order)
-    (λ read. made read.drawing (snap_of order.gap read.drawn.drawing read.drawing.starts read.drawing.ends))
+order_sound (meeting order) = parses_sound (order.output ∷ []) order.input lines_read (meet_read order)
+    (λ read. made read.drawing (met_of order.rule read.drawn.drawing read.drawing.starts read.drawing.ends))
     (λ fault. refuses_sound (order.output ∷ []) _)
   where
-    made : (d : DrawingValue) (said : Result SnappedDrawing SnapFault) → IsSoundPlan (order.output ∷ []) (snap_made order d said)
-    made d (Ok snap) = accepts_sound (order.output ∷ []) (IsSnapProduct order.gap order.output d snap)
+    made : (d : DrawingValue) (said : Result MetDrawing MeetFault) → IsSoundPlan (order.output ∷ []) (meet_made order d said)
+    made d (Ok met) = accepts_sound (order.output ∷ []) (IsMeetProduct order.report order.output d met)
         (λ product is. named product _ is.written.made)
     made d (Err fault) = refuses_sound (order.output ∷ []) _
 order_sound (spacing order) = parses_sound (order.output ∷ []) order.input lines_read (space_read order)
@@ -41,22 +49,20 @@ order_sound (spacing order) = parses_sound (order.output ∷ []) order.input lin
         (λ product is. named product _ is.written.made)
     made d (Err kind) = refuses_sound (order.output ∷ []) _
 order_sound (freeing order) = parses_sound (order.output ∷ []) order.input lines_read (free_read order)
-    (λ read. made (lines_joined read.drawn.drawing read.drawing.starts read.drawing.ends))
+    (λ read. made (length read.drawing.lines) (lines_joined read.drawn.drawing read.drawing.starts read.drawing.ends))
     (λ fault. refuses_sound (order.output ∷ []) _)
   where
-    made : (said : Result JoinedLines DrawKind) → IsSoundPlan (order.output ∷ []) (free_made order said)
-    made (Ok lines) = accepts_sound (order.output ∷ []) (IsFreeProduct order.output lines.drawn lines.joined)
-        (λ product is. named product _ is.written.made)
-    made (Err kind) = refuses_sound (order.output ∷ []) _
+    made : (count : ℕ) (said : Result JoinedLines DrawKind) → IsSoundPlan (order.output ∷ []) (free_made order count said)
+    made count (Ok lines) = kept_sound (order.output ∷ []) order.input _ (length lines.joined.lines == count)
+        (accepts_sound (order.output ∷ []) (IsFreeProduct order.output lines.drawn lines.joined)
+        (λ product is. named product _ is.written.made))
+    made count (Err kind) = refuses_sound (order.output ∷ []) _
 order_sound (nearing order) = parses_sound (order.output ∷ []) order.input drawing_of (near_read order)
     (λ d. made (length d.lines) (drawn_with d d.lines d.starts)) (λ fault. refuses_sound (order.output ∷ []) _)
   where
-    kept : (before : DrawingValue) (is : Bool) → IsSoundPlan (order.output ∷ []) (near_kept order before is)
-    kept before true = accepts_sound (order.output ∷ []) (IsNearProduct order.output before) (λ product is. named product _ is.made)
-    kept before false = refuses_sound (order.output ∷ []) _
-
     made : (lines : ℕ) (said : Result DrawingValue DrawKind) → IsSoundPlan (order.output ∷ []) (near_made order lines said)
-    made lines (Ok before) = kept before (length before.lines == lines)
+    made lines (Ok before) = kept_sound (order.output ∷ []) order.input _ (length before.lines == lines)
+        (accepts_sound (order.output ∷ []) (IsNearProduct order.output before) (λ product is. named product _ is.made))
     made lines (Err kind) = refuses_sound (order.output ∷ []) _
 order_sound (editing order) = parses_sound (order.output ∷ []) order.input drawing_of (drawing_edit_read order)
     (λ d. made (edits_applied 1 order.edits d)) (λ fault. refuses_sound (order.output ∷ []) _)

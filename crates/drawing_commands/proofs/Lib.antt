@@ -1,6 +1,5 @@
 pub mod Names
-mod LookFacts
-mod SnapLemmas
+mod MeetLemmas
 mod SpaceLemmas
 pub mod DrawingEditLemmas
 pub mod RequestLemmas
@@ -8,4 +7,4 @@ mod CommandLemmas
 mod EditFacts
 mod MistakeFacts
 mod ProductFacts
-pub mod NearLemmas
+pub mod VersionOneLemmas

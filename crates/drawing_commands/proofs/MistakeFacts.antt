@@ -1,6 +1,6 @@
 -- Worked mistakes of arguments: the first that isn't understood is named, with what is wrong with it.
 use Rattle.std.proofs.Common.{◌≡◌, ◌∷◌, [], ℕ, List, Some, None, codes, refl}
-use Rattle.companion_words.specs.MistakenWords.{mistaken}
+use Rattle.program_texts.specs.MistakenWords.{mistaken}
 use Rattle.drawing_commands.proofs.Names.{drawing_mistake, drawing_order_of, space_order, spacing, telling}
 use Rattle.drawing_commands.specs.Usage.{drawing_usage_text}
 

@@ -8,21 +8,20 @@ pub use Rattle.drawing_commands.specs.Commands.{stitch_drawing_after}
 pub use Rattle.drawing_commands.specs.DrawingEditWords.{drawing_edits_of, parsed_drawing_edit, parsed_drawing_edits}
 pub use Rattle.drawing_commands.specs.DrawingEditing.{IsEdited, at_edit, bad_edit_is_out_of_memory, bad_edit_text, drawing_edit_order}
 pub use Rattle.drawing_commands.specs.DrawingEditing.{drawing_edit_read, edit_fault_text, edited_plan, edits_applied}
-pub use Rattle.drawing_commands.specs.LookTexts.{look_piece_line, look_piece_lines, look_totals_text, place_lines}
 pub use Rattle.drawing_commands.specs.FreeOrders.{IsFreeProduct, free_made, free_order, free_read}
 pub use Rattle.drawing_commands.specs.FreeTexts.{closed_penetrations, found_lines, free_penetrations}
-pub use Rattle.drawing_commands.specs.NearFiles.{IsNearProduct, near_file_order, near_kept, near_made, near_read}
+pub use Rattle.drawing_commands.specs.NearFiles.{IsNearProduct, near_file_order, near_made, near_read}
 pub use Rattle.drawing_commands.specs.Looks.{IsLook, look_order, look_read}
-pub use Rattle.drawing_commands.specs.Requests.{DrawingOrder, editing, freeing, looking, nearing, snapping, spacing, telling}
-pub use Rattle.drawing_commands.specs.SnapOrders.{IsSnapProduct, snap_made, snap_order, snap_read}
+pub use Rattle.drawing_commands.specs.MeetOrders.{IsMeetProduct, cross_order, meet_made, meet_read, snap_order}
+pub use Rattle.drawing_commands.specs.Requests.{DrawingOrder, editing, freeing, looking, meeting, nearing, spacing, telling}
 pub use Rattle.drawing_commands.specs.SpaceOrders.{IsSpaceProduct, space_made, space_order, space_read, space_report}
 pub use Rattle.drawing_commands.specs.declared.bad_edit.BadEdit.{BadEdit}
 pub use Rattle.drawing_edits.specs.declared.drawing_edit.DrawingEdit.{DrawingEdit}
 pub use Rattle.line_graph.specs.Drawings.{DrawingValue}
 pub use Rattle.line_graph.specs.EndOrders.{AreInBlockOrder, HasOrderedEnds}
 pub use Rattle.line_graph.specs.GrowingDrawings.{and_then, draw_is_out_of_memory, point_count}
-pub use Rattle.drawing_repairs.specs.Snaps.{snap_is_out_of_memory, snap_of}
-pub use Rattle.drawing_repairs.specs.declared.snapping.SnappedDrawing.{SnappedDrawing}
+pub use Rattle.met_drawings.specs.MetDrawings.{meet_is_out_of_memory, met_of}
+pub use Rattle.met_drawings.specs.declared.meeting.MetDrawing.{MetDrawing}
 pub use Rattle.drawing_text.specs.DrawingText.{drawing_of}
 pub use Rattle.line_sections.specs.declared.spot.Spot.{Spot}
 pub use Rattle.program_shell.proofs.CallerLemmas.{IsSoundPlan, accepts_sound, can_finish, ends, fault_refused, named, parses_sound}

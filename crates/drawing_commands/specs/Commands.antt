@@ -1,17 +1,17 @@
 -- The commands of stitch_drawing: the plan of each order, the files that it writes, and the
 -- program.
 use Rattle.std.specs.Prelude.{◌≡◌, ℕ, List, [], ◌∷◌, Option, Some, None, Result, Ok, Err}
-use Rattle.companion_words.specs.MistakenWords.{MistakenWord}
-use Rattle.companion_words.specs.UsageTexts.{usage_with}
+use Rattle.program_texts.specs.MistakenWords.{MistakenWord}
+use Rattle.program_texts.specs.CompanionUsage.{usage_with}
 use Rattle.program_shell.specs.Plans.{Plan, accepts}
 use Rattle.program_shell.specs.Products.{report_product}
 use Rattle.program_shell.specs.Programs.{Program}
 use Rattle.drawing_commands.specs.DrawingEditing.{drawing_edit_plan}
 use Rattle.drawing_commands.specs.FreeOrders.{free_plan}
 use Rattle.drawing_commands.specs.Looks.{look_plan}
+use Rattle.drawing_commands.specs.MeetOrders.{meet_plan}
 use Rattle.drawing_commands.specs.NearFiles.{near_plan}
-use Rattle.drawing_commands.specs.Requests.{DrawingOrder, editing, freeing, looking, nearing, parsed_drawing_words, snapping, spacing, telling}
-use Rattle.drawing_commands.specs.SnapOrders.{snap_plan}
+use Rattle.drawing_commands.specs.Requests.{DrawingOrder, editing, freeing, looking, meeting, nearing, parsed_drawing_words, spacing, telling}
 use Rattle.drawing_commands.specs.SpaceOrders.{space_plan}
 use Rattle.drawing_commands.specs.Usage.{drawing_program_name, drawing_usage_text}
 
@@ -36,7 +36,7 @@ drawing_mistake words = mistake_of_parsed (parsed_drawing_words words)
 -- The plan of an order: which files it reads, and what it accepts or refuses.
 abbrev pub drawing_plan_of : DrawingOrder → Plan
 drawing_plan_of (looking order) = look_plan order
-drawing_plan_of (snapping order) = snap_plan order
+drawing_plan_of (meeting order) = meet_plan order
 drawing_plan_of (spacing order) = space_plan order
 drawing_plan_of (freeing order) = free_plan order
 drawing_plan_of (nearing order) = near_plan order
@@ -46,7 +46,7 @@ drawing_plan_of (telling text) = accepts (λ product. product ≡ report_product
 -- The names of the files that an order writes, in the order of writing.
 abbrev pub drawing_outputs_of : DrawingOrder → List (List ℕ)
 drawing_outputs_of (looking order) = []
-drawing_outputs_of (snapping order) = order.output ∷ []
+drawing_outputs_of (meeting order) = order.output ∷ []
 drawing_outputs_of (spacing order) = order.output ∷ []
 drawing_outputs_of (freeing order) = order.output ∷ []
 drawing_outputs_of (nearing order) = order.output ∷ []

@@ -1,6 +1,6 @@
 -- The command `free`: pieces without start and end get the best ones. The lines are written whole,
 -- as they were drawn.
-use Rattle.std.specs.Prelude.{ℕ, List, Option, Some, None, Result, Ok, Err}
+use Rattle.std.specs.Prelude.{ℕ, ◌==◌, Bool, List, Result, Ok, Err, length}
 use Rattle.drawing_text.specs.declared.draw_fault.DrawFault.{DrawFault}
 use Rattle.drawing_text.specs.declared.lines_read.LinesRead.{LinesRead}
 use Rattle.drawing_text.specs.DrawingLines.{lines_read}
@@ -14,7 +14,8 @@ use Rattle.program_shell.specs.Plans.{Plan, accepts, reads, refuses}
 use Rattle.program_shell.specs.Products.{ProductValue}
 use Rattle.program_texts.specs.DrawingTexts.{draw_kind_text}
 use Rattle.drawing_commands.specs.FaultTexts.{plan_after_reading}
-use Rattle.drawing_commands.specs.FreeTexts.{free_report, written_founds}
+use Rattle.drawing_commands.specs.FreeTexts.{free_report}
+use Rattle.drawing_commands.specs.VersionOne.{plan_if_kept}
 use Rattle.drawing_commands.specs.WholeProducts.{IsWholeProduct}
 
 -- The order of `free`: the drawing to read, and the file to write.
@@ -26,30 +27,29 @@ pub record FreeOrder : Type 0 where
 abbrev pub free_order : (input output : List ℕ) → FreeOrder
 free_order input output = record { input = input; output = output }
 
--- The drawing that is written: the freed one, or the one before where there is none.
-abbrev pub written_drawing : Option DrawingValue → DrawingValue → DrawingValue
-written_drawing None before = before
-written_drawing (Some d) before = d
-
 -- The product of `free`: the lines as they are drawn, with the best ends of the pieces that had
--- none, and a report on them.
+-- none, and a report on them. Each piece has those that are found of it (`IsFreed: ends`).
 pub record IsFreeProduct (output : List ℕ) (drawn before : DrawingValue) (product : ProductValue)
     : Type 0 where
   pub freed : FreedDrawing
   pub is : IsFreed drawn before freed
-  pub written : IsWholeProduct output drawn (written_drawing freed.joined before)
-      (free_report freed.pieces (written_founds freed.joined freed.found)) product
+  pub written : IsWholeProduct output drawn freed.joined (free_report freed.pieces freed.found)
+      product
 
--- The plan for lines as they are drawn and their joined drawing: it is accepted, and a fault is
--- refused.
-abbrev pub free_made : FreeOrder → Result JoinedLines DrawKind → Plan
-free_made order (Ok lines) = accepts (IsFreeProduct order.output lines.drawn lines.joined)
-free_made order (Err why) = refuses (text_about order.input (draw_kind_text why))
+-- The plan for lines as they are drawn and their joined drawing: it is accepted if no line was cut.
+abbrev pub free_kept : FreeOrder → JoinedLines → Bool → Plan
+free_kept order lines = plan_if_kept order.input
+    (accepts (IsFreeProduct order.output lines.drawn lines.joined))
+
+-- The plan for joined lines, which were read as a number of lines: a fault is refused.
+abbrev pub free_made : FreeOrder → (count : ℕ) → Result JoinedLines DrawKind → Plan
+free_made order count (Ok lines) = free_kept order lines (length lines.joined.lines == count)
+free_made order count (Err why) = refuses (text_about order.input (draw_kind_text why))
 
 -- The plan for a drawing and its lines as they are drawn: these are joined, with the starts and
 -- ends of the drawing.
 abbrev pub free_lines : FreeOrder → LinesRead → Plan
-free_lines order read = free_made order
+free_lines order read = free_made order (length read.drawing.lines)
     (lines_joined read.drawn.drawing read.drawing.starts read.drawing.ends)
 
 -- The plan for the result of reading the drawing: a fault is refused.

@@ -4,13 +4,12 @@ use Rattle.std.specs.Prelude.{ℕ, ◌+◌, List, [], ◌∷◌, ◌++◌, Optio
 use Rattle.std.specs.Fmt.{signed_decimal}
 use Rattle.design_model.specs.declared.point.Point.{Point}
 use Rattle.design_model.specs.TextLines.{newline}
-use Rattle.drawing_commands.specs.LookTexts.{piece_title}
+use Rattle.look_reports.specs.LookTexts.{piece_title}
 use Rattle.free_ends.specs.declared.end_choice.BestEnds.{BestEnds}
 use Rattle.free_ends.specs.declared.end_choice.WalkEnds.{WalkEnds}
 use Rattle.free_ends.specs.declared.piece_ends.PieceEnds.{PieceEnds}
 use Rattle.free_ends.specs.declared.piece_ends.PieceEnds.TheVariants as found
 use Rattle.line_graph.specs.declared.piece.Piece.{Piece}
-use Rattle.line_graph.specs.Drawings.{DrawingValue}
 use Rattle.line_graph.specs.PiecesOfDrawings.{graph_of}
 use Rattle.line_graph.specs.PieceGraphs.{PieceValue, odd_junctions}
 
@@ -73,8 +72,3 @@ sums_text before after pieces = codes "penetrations " ++ (decimal before ++ (cod
 abbrev pub free_report : List Piece → List PieceEnds → List ℕ
 free_report pieces founds = found_lines 0 pieces founds
     ++ sums_text (closed_penetrations founds) (free_penetrations founds) (length pieces)
-
--- What is found and written: nothing where the drawing can't have the ends.
-abbrev pub written_founds : Option DrawingValue → List PieceEnds → List PieceEnds
-written_founds None founds = []
-written_founds (Some d) founds = founds

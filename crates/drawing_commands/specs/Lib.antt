@@ -1,19 +1,19 @@
 -- Definitions of a lower crate that public clauses cite.
-pub use Rattle.companion_words.specs.MistakenWords
-pub use Rattle.companion_words.specs.UsageTexts
+pub use Rattle.program_texts.specs.MistakenWords
+pub use Rattle.program_texts.specs.CompanionUsage
 pub use Rattle.program_shell.specs.ProgramRuns
 pub use Rattle.program_shell.specs.RunViews
 pub mod Usage
 pub mod Mistakes
 pub mod FaultTexts
-pub mod LookTexts
 pub mod Looks
 pub mod WholeProducts
-pub mod SnapTexts
-pub mod SnapOrders
+pub mod MeetTexts
+pub mod MeetOrders
 pub mod LengthSpans
 pub mod SpaceTexts
 pub mod SpaceOrders
+pub mod VersionOne
 pub mod FreeTexts
 pub mod FreeOrders
 pub mod NearFiles

@@ -1,6 +1,6 @@
 -- The first argument that isn't understood, and what is said of it.
-use Rattle.std.specs.Prelude.{ℕ, List, codes}
-use Rattle.companion_words.specs.MistakenWords.{MistakenWord, mistaken}
+use Rattle.std.specs.Prelude.{ℕ, List, Option, Some, None, Result, Ok, Err, codes}
+use Rattle.program_texts.specs.MistakenWords.{MistakenWord, mistaken}
 use Rattle.drawing_commands.specs.declared.mistake.Misfit.{Misfit}
 use Rattle.drawing_commands.specs.declared.mistake.Misfit.TheVariants as misfit
 use Rattle.drawing_commands.specs.declared.mistake.Mistake.{Mistake}
@@ -26,3 +26,8 @@ mistake_at word why = mistaken word (misfit_text why)
 -- A mistake of the program, with its texts as bytes.
 abbrev pub mistaken_word : Mistake → MistakenWord
 mistaken_word mistake = mistake_at mistake.word.now mistake.why
+
+-- A value, if no argument is mistaken for an edit.
+abbrev pub unless_mistaken : {V : Type 0} → V → Option (List ℕ) → Result V MistakenWord
+unless_mistaken made None = Ok made
+unless_mistaken made (Some word) = Err (mistake_at word misfit.NotAnEdit)

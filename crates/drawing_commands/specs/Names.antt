@@ -1,6 +1,6 @@
--- The names and the gap among the arguments of stitch_drawing.
-use Rattle.std.specs.Prelude.{ℕ, pos, negsuc, List, [], ◌∷◌, Option, Some, None, Result, Ok, Err, bytes_eq, nat_le, if◌then◌else◌}
-use Rattle.companion_words.specs.MistakenWords.{MistakenWord, then_with}
+-- The names, the gap and `--keep` among the arguments of stitch_drawing.
+use Rattle.std.specs.Prelude.{ℕ, pos, negsuc, Bool, true, false, List, [], ◌∷◌, Option, Some, None, Result, Ok, Err, bytes_eq, codes, nat_le, if◌then◌else◌}
+use Rattle.program_texts.specs.MistakenWords.{MistakenWord, then_with}
 use Rattle.design_model.specs.declared.whole_number.Whole.{Whole}
 use Rattle.design_model.specs.declared.whole_number.Whole.TheVariants as whole
 use Rattle.design_model.specs.WholeNumbers.{parsed_whole}
@@ -64,3 +64,9 @@ parsed_names before (input ∷ output ∷ words) = then_with (name_or_mistake in
 abbrev pub parsed_gap : List (List ℕ) → Result ℕ MistakenWord
 parsed_gap [] = Ok DEFAULT_GAP
 parsed_gap (gap ∷ rest) = then_with (gap_or_mistake gap) (λ g. nothing_after g rest)
+
+-- Copies of segments are kept after the last argument `--keep`.
+abbrev pub parsed_keep : List (List ℕ) → Result Bool MistakenWord
+parsed_keep [] = Ok false
+parsed_keep (word ∷ rest) = if bytes_eq word (codes "--keep") then nothing_after true rest
+    else Err (mistake_at word misfit.NotUnderstood)

@@ -1,6 +1,6 @@
 -- The command `near`: the pieces of each block are sewn in an order with little travel. The drawing
 -- is written with its lines cut where they meet.
-use Rattle.std.specs.Prelude.{◌≡◌, ℕ, ◌==◌, Bool, true, false, List, ◌++◌, Result, Ok, Err, codes, decimal, length}
+use Rattle.std.specs.Prelude.{◌≡◌, ℕ, ◌==◌, Bool, List, ◌++◌, Result, Ok, Err, codes, decimal, length}
 use Rattle.design_model.specs.TextLines.{newline}
 use Rattle.drawing_text.specs.declared.draw_fault.DrawFault.{DrawFault}
 use Rattle.drawing_text.specs.DrawingText.{drawing_of}
@@ -14,7 +14,8 @@ use Rattle.program_shell.specs.Plans.{Plan, accepts, reads, refuses}
 use Rattle.program_shell.specs.Products.{ProductValue, one_file_product}
 use Rattle.program_texts.specs.DrawingTexts.{draw_kind_text}
 use Rattle.drawing_commands.specs.FaultTexts.{plan_after_reading}
-use Rattle.drawing_commands.specs.LookTexts.{tenths_text}
+use Rattle.look_reports.specs.PlaceTexts.{tenths_text}
+use Rattle.drawing_commands.specs.VersionOne.{plan_if_kept}
 
 -- The order of `near`: the drawing to read, and the file to write.
 pub record NearFileOrder : Type 0 where
@@ -41,15 +42,9 @@ pub record IsNearProduct (output : List ℕ) (before : DrawingValue) (product : 
   pub made : product ≡ one_file_product output (drawn_text found.drawing)
       (near_report found.before found.after found.pieces)
 
--- What is wrong with a drawing of version 1 whose pieces change where its lines are cut.
-abbrev pub version_one_text : List ℕ
-version_one_text = codes "redwork 1 can't be kept: migrate it first"
-
--- The plan for a joined drawing: it is accepted if no line was cut, since version 1 would not cut
--- it.
+-- The plan for a joined drawing: it is accepted if no line was cut.
 abbrev pub near_kept : NearFileOrder → DrawingValue → Bool → Plan
-near_kept order before true = accepts (IsNearProduct order.output before)
-near_kept order before false = refuses (text_about order.input version_one_text)
+near_kept order before = plan_if_kept order.input (accepts (IsNearProduct order.output before))
 
 -- The plan for the joined drawing of a number of lines: a fault is refused.
 abbrev pub near_made : NearFileOrder → (lines : ℕ) → Result DrawingValue DrawKind → Plan

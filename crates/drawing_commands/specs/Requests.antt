@@ -1,22 +1,23 @@
 -- What the arguments of stitch_drawing request, a command and its arguments; or the first that
 -- isn't understood.
-use Rattle.std.specs.Prelude.{ℕ, ◌≤◌, List, [], ◌∷◌, Option, Some, None, IsSome, Result, Ok, Err, bytes_eq, codes, length, map, string_bytes, if◌then◌else◌}
-use Rattle.companion_words.specs.MistakenWords.{MistakenWord, then_with, with_some_mistake}
-use Rattle.companion_words.specs.UsageTexts.{version_line}
+use Rattle.std.specs.Prelude.{ℕ, ◌≤◌, List, [], ◌∷◌, Option, None, IsSome, Result, Ok, Err, bytes_eq, codes, length, map, string_bytes, if◌then◌else◌}
+use Rattle.program_texts.specs.MistakenWords.{MistakenWord, then_with, with_some_mistake}
+use Rattle.program_texts.specs.CompanionUsage.{version_line}
 use Rattle.command_words.specs.declared.names.FileNames.{FileNames}
 use Rattle.command_words.specs.ValidNames.{AreFileNames}
 use Rattle.outside_io.specs.Files.{IsFileName}
 use Rattle.drawing_commands.specs.declared.mistake.Misfit.TheVariants as misfit
 use Rattle.drawing_commands.specs.declared.requests.DrawingRequest.{DrawingRequest}
+use Rattle.drawing_commands.specs.declared.requests.TheConstants.{MAX_GAP}
 use Rattle.drawing_commands.specs.declared.requests.DrawingRequest.TheVariants as request
 use Rattle.drawing_commands.specs.DrawingEditing.{DrawingEditOrder, drawing_edit_order}
 use Rattle.drawing_commands.specs.DrawingEditWords.{drawing_edits_of, first_mistaken_edit, parsed_drawing_edits}
 use Rattle.drawing_commands.specs.FreeOrders.{FreeOrder, free_order}
 use Rattle.drawing_commands.specs.Looks.{LookOrder, look_order}
-use Rattle.drawing_commands.specs.Mistakes.{mistake_at}
-use Rattle.drawing_commands.specs.Names.{gap_or_mistake, name_or_mistake, nothing_after, parsed_gap, parsed_names}
+use Rattle.drawing_commands.specs.MeetOrders.{MeetOrder, cross_order, snap_order}
+use Rattle.drawing_commands.specs.Mistakes.{mistake_at, unless_mistaken}
+use Rattle.drawing_commands.specs.Names.{gap_or_mistake, name_or_mistake, nothing_after, parsed_gap, parsed_keep, parsed_names}
 use Rattle.drawing_commands.specs.NearFiles.{NearFileOrder, near_file_order}
-use Rattle.drawing_commands.specs.SnapOrders.{SnapOrder, snap_order}
 use Rattle.drawing_commands.specs.SpaceOrders.{SpaceOrder, space_order}
 use Rattle.drawing_commands.specs.SpaceWords.{no_limits, parsed_spacing}
 use Rattle.drawing_commands.specs.Usage.{drawing_program_name, drawing_usage_text}
@@ -24,7 +25,7 @@ use Rattle.drawing_commands.specs.Usage.{drawing_program_name, drawing_usage_tex
 -- An order, with a case for each command. The last prints a text that depends on no file.
 pub data DrawingOrder : Type 0 where
   looking : LookOrder → DrawingOrder
-  snapping : SnapOrder → DrawingOrder
+  meeting : MeetOrder → DrawingOrder
   spacing : SpaceOrder → DrawingOrder
   freeing : FreeOrder → DrawingOrder
   nearing : NearFileOrder → DrawingOrder
@@ -34,8 +35,10 @@ pub data DrawingOrder : Type 0 where
 -- The order of a request of the program.
 abbrev pub order_of_request : DrawingRequest → DrawingOrder
 order_of_request (request.Look file gap) = looking (look_order file.now gap)
-order_of_request (request.Snap gap names) =
-    snapping (snap_order gap names.input.now names.output.now)
+order_of_request (request.Snap gap keeps_copies names) =
+    meeting (snap_order gap keeps_copies names.input.now names.output.now)
+order_of_request (request.Cross keeps_copies names) =
+    meeting (cross_order keeps_copies names.input.now names.output.now)
 order_of_request (request.Space limits names) =
     spacing (space_order limits names.input.now names.output.now)
 order_of_request (request.Free names) = freeing (free_order names.input.now names.output.now)
@@ -53,10 +56,16 @@ pub record IsEditRequest (names : FileNames) (edits : List (List ℕ)) : Type 0 
   pub parsed : IsSome (parsed_drawing_edits edits)
   pub some : 1 ≤ length edits
 
--- The names of a request are file names, and its edits are edits.
+-- The names of `snap` are file names, and its gap is in range.
+pub record IsSnapRequest (names : FileNames) (gap : ℕ) : Type 0 where
+  pub named : AreFileNames names
+  pub small : gap ≤ MAX_GAP
+
+-- The names of a request are file names, its gap is in range, and its edits are edits.
 abbrev pub HasFileNames : DrawingRequest → Type 0
 HasFileNames (request.Look file gap) = IsFileName file.now
-HasFileNames (request.Snap gap names) = AreFileNames names
+HasFileNames (request.Snap gap keeps_copies names) = IsSnapRequest names gap
+HasFileNames (request.Cross keeps_copies names) = AreFileNames names
 HasFileNames (request.Space limits names) = AreFileNames names
 HasFileNames (request.Free names) = AreFileNames names
 HasFileNames (request.Near names) = AreFileNames names
@@ -71,12 +80,19 @@ parsed_look command [] = Err (mistake_at command misfit.NoFile)
 parsed_look command (file ∷ words) = then_with (name_or_mistake file) (λ name.
     then_with (parsed_gap words) (λ gap. Ok (looking (look_order name gap))))
 
--- The order of `snap`: a gap, and two different file names.
+-- The order of `cross`: two different file names, and whether copies are kept.
+abbrev pub parsed_cross : (command : List ℕ) → List (List ℕ) → Result DrawingOrder MistakenWord
+parsed_cross command words = then_with (parsed_names command words) (λ named.
+    then_with (parsed_keep named.rest) (λ keeps_copies.
+    Ok (meeting (cross_order keeps_copies named.input named.output))))
+
+-- The order of `snap`: a gap, two different file names, and whether copies are kept.
 abbrev pub parsed_snap : (command : List ℕ) → List (List ℕ) → Result DrawingOrder MistakenWord
 parsed_snap command [] = Err (mistake_at command misfit.NoGap)
 parsed_snap command (gap ∷ words) = then_with (gap_or_mistake gap) (λ g.
     then_with (parsed_names gap words) (λ named.
-    nothing_after (snapping (snap_order g named.input named.output)) named.rest))
+    then_with (parsed_keep named.rest) (λ keeps_copies.
+    Ok (meeting (snap_order g keeps_copies named.input named.output)))))
 
 -- The order of `space`: two different file names, and what is given of the rule.
 abbrev pub parsed_space : (command : List ℕ) → List (List ℕ) → Result DrawingOrder MistakenWord
@@ -93,11 +109,6 @@ parsed_free command words = then_with (parsed_names command words) (λ named.
 abbrev pub parsed_near : (command : List ℕ) → List (List ℕ) → Result DrawingOrder MistakenWord
 parsed_near command words = then_with (parsed_names command words) (λ named.
     nothing_after (nearing (near_file_order named.input named.output)) named.rest)
-
--- A value, if no argument is mistaken for an edit.
-abbrev pub unless_mistaken : {V : Type 0} → V → Option (List ℕ) → Result V MistakenWord
-unless_mistaken made None = Ok made
-unless_mistaken made (Some word) = Err (mistake_at word misfit.NotAnEdit)
 
 -- The order of `edit` with those names and edits, if each argument is an edit.
 abbrev pub edits_parsed : (input output : List ℕ) → List (List ℕ)
@@ -121,6 +132,7 @@ abbrev pub command_order : (command : List ℕ) → List (List ℕ) → Result D
 command_order command words =
     if bytes_eq command (codes "look") then parsed_look command words
     else (if bytes_eq command (codes "snap") then parsed_snap command words
+    else (if bytes_eq command (codes "cross") then parsed_cross command words
     else (if bytes_eq command (codes "space") then parsed_space command words
     else (if bytes_eq command (codes "free") then parsed_free command words
     else (if bytes_eq command (codes "near") then parsed_near command words
@@ -128,7 +140,7 @@ command_order command words =
     else (if bytes_eq command (codes "--help") then nothing_after (telling drawing_usage_text) words
     else (if bytes_eq command (codes "--version")
     then nothing_after (telling (version_line drawing_program_name)) words
-    else Err (mistake_at command misfit.NotACommand))))))))
+    else Err (mistake_at command misfit.NotACommand)))))))))
 
 -- The order of the arguments, or the first that isn't understood. Without arguments there is
 -- neither.

@@ -1,7 +1,7 @@
 -- What arguments of `space` give of its rule: `length=N` and `leeway=N`, in tenths of a millimetre.
 -- Of two with one key the later one counts.
 use Rattle.std.specs.Prelude.{ℕ, List, [], ◌∷◌, Option, Some, None, Result, Ok, Err, bytes_eq, codes, if◌then◌else◌}
-use Rattle.companion_words.specs.MistakenWords.{MistakenWord, then_with}
+use Rattle.program_texts.specs.MistakenWords.{MistakenWord, then_with}
 use Rattle.command_words.specs.Arguments.{equals_sign, natural_within}
 use Rattle.design_model.specs.WholeNumbers.{parsed_whole}
 use Rattle.spaced_lines.specs.declared.spacing_rule.SpacingLimits.{SpacingLimits}

@@ -1,4 +1,4 @@
-ghost use Rattle.companion_words.specs.MistakenWords.{MistakenWord};
+ghost use Rattle.program_texts.specs.MistakenWords.{MistakenWord};
 ghost use Rattle.drawing_commands.specs.Commands.{drawing_order_of, stitch_drawing_after};
 ghost use Rattle.drawing_commands.specs.Requests.{HasFileNames, order_of_request};
 ghost use Rattle.program_shell.specs.StepOutcomes.{RunsRequest};
@@ -7,14 +7,14 @@ ghost use Rattle.std.specs.Prelude.{Option as OptionValue, Some, map, string_byt
 use crate::editing::edit;
 use crate::freeing::free_file;
 use crate::looking::look;
+use crate::meeting::{cross_file, snap_file};
 use crate::near_files::near_file;
 use crate::requests::{DrawingRequest, drawing_request};
-use crate::snapping::snap_file;
 use crate::spacing::space_file;
 use crate::usage::{NAME, usage};
-use companion_words::version_text;
 use outside_io::Store;
 use program_shell::{Failure, Made, bytes_of, only_report};
+use program_texts::version_text;
 use std::alloc::Global;
 
 /// Makes the product that the arguments request. Reads the inputs from the store, and writes nothing.
@@ -44,7 +44,15 @@ fn make_requested<'a, S: Store>(
 {
     match requested {
         DrawingRequest::Look { file, gap } => look(alloc, file, gap, store),
-        DrawingRequest::Snap { gap, names } => snap_file(alloc, gap, names, store),
+        DrawingRequest::Snap {
+            gap,
+            keeps_copies,
+            names,
+        } => snap_file(alloc, gap, keeps_copies, names, store),
+        DrawingRequest::Cross {
+            keeps_copies,
+            names,
+        } => cross_file(alloc, keeps_copies, names, store),
         DrawingRequest::Space { limits, names } => space_file(alloc, limits, names, store),
         DrawingRequest::Free(names) => free_file(alloc, names, store),
         DrawingRequest::Near(names) => near_file(alloc, names, store),

@@ -4,10 +4,10 @@ ghost use Rattle.design_model.specs.TextLines.{newline};
 ghost use Rattle.std.specs.Fmt.{signed_decimal};
 ghost use Rattle.std.specs.Prelude.{◌≡◌, ◌++◌, IfOk, OnOk, codes, decimal, slice_get, string_bytes};
 
-use crate::look_texts::{odd_count, piece_start};
 use design_model::{Bytes, Memory, Point};
 use free_ends::{BestEnds, PieceEnds};
 use line_graph::Piece;
+use look_reports::{odd_count, piece_start};
 use std::alloc::Global;
 
 /// Returns the report of `free` on pieces and what is found of their ends.

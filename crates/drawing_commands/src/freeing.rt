@@ -1,18 +1,18 @@
 ghost use Rattle.command_words.specs.ValidNames.{AreFileNames};
-ghost use Rattle.drawing_commands.specs.FreeOrders.{IsFreeProduct, free_lines, free_order, free_plan, written_drawing};
-ghost use Rattle.drawing_commands.specs.FreeTexts.{free_report as report_on, written_founds};
+ghost use Rattle.drawing_commands.specs.FreeOrders.{IsFreeProduct, free_kept, free_lines, free_order, free_plan};
 ghost use Rattle.drawing_commands.specs.WholeProducts.{IsWhole};
 ghost use Rattle.line_graph.specs.EndOrders.{HasOrderedEnds};
 ghost use Rattle.program_shell.specs.Products.{product_value};
 ghost use Rattle.program_shell.specs.StepOutcomes.{RunsPlan, RunsPurePlan};
-ghost use Rattle.std.specs.Prelude.{◌≡◌, IfOk};
+ghost use Rattle.std.specs.Prelude.{◌≡◌, ◌==◌, IfOk, length};
 
 use crate::free_texts::describe_free;
 use crate::space_texts::space_failure;
+use crate::version_one::not_kept;
 use crate::whole_files::whole_product;
 use command_words::FileNames;
-use design_model::{Bytes, Memory};
-use free_ends::{FreedDrawing, free, join_lines};
+use design_model::Memory;
+use free_ends::{JoinedLines, free, join_lines};
 use line_graph::Drawing;
 use outside_io::Store;
 use program_inputs::{LinesRead, lines_in};
@@ -42,12 +42,28 @@ fn free_lines_of<'a>(alloc: Global, names: FileNames<'a>, read: &LinesRead) -> M
 {
     let drawn = &read.drawn.drawing;
     match join_lines(alloc, drawn, read.drawing.starts(), read.drawing.ends()) {
-        Ok(lines) => {
-            let product = free_product(alloc, names.output, &lines.drawn, &lines.joined)?;
-            Ok(product)
-        }
+        Ok(lines) => free_if_kept(alloc, names, &lines, read.drawing.line_count()),
         Err(why) => Err(space_failure(alloc, names.input, why)),
     }
+}
+
+/// Frees joined lines, if these are as many as were read.
+fn free_if_kept<'a>(
+    alloc: Global,
+    names: FileNames<'a>,
+    lines: &JoinedLines,
+    count: u32,
+) -> Made<'a>
+    requires names { AreFileNames names }
+    requires whole { IsWhole lines.now.drawn lines.now.joined }
+    ensures { RunsPurePlan (free_kept (free_order names.entry.input.now names.entry.output.now)
+        lines.now (length lines.now.joined.lines == count)) result }
+{
+    if lines.joined.line_count() != count {
+        return Err(not_kept(alloc, names.input));
+    }
+    let product = free_product(alloc, names.output, &lines.drawn, &lines.joined)?;
+    Ok(product)
 }
 
 fn free_product<'a>(
@@ -61,28 +77,7 @@ fn free_product<'a>(
         IsFreeProduct output.now drawn.now before.now (product_value product)) }
 {
     let freed = free(alloc, drawn, before)?;
-    let report = free_report(alloc, &freed)?;
-    let product = whole_product(alloc, output, drawn, written(&freed, before), report)?;
+    let report = describe_free(alloc, freed.pieces.as_slice(), freed.found.as_slice())?;
+    let product = whole_product(alloc, output, drawn, &freed.joined, report)?;
     Ok(product)
-}
-
-/// Returns the report on a freed drawing.
-fn free_report(alloc: Global, freed: &FreedDrawing) -> Result<Bytes, Memory>
-    ensures { IfOk result (λ text. text ≡ report_on freed.now.pieces
-        (written_founds freed.now.joined freed.now.found)) }
-{
-    match &freed.joined {
-        Some(_) => describe_free(alloc, freed.pieces.as_slice(), freed.found.as_slice()),
-        None => describe_free(alloc, freed.pieces.as_slice(), &[]),
-    }
-}
-
-/// Returns the drawing that is written: the freed one, or the one before where there is none.
-fn written<'b>(freed: &'b FreedDrawing, before: &'b Drawing) -> &'b Drawing
-    ensures { result.now ≡ written_drawing freed.now.joined before.now }
-{
-    match &freed.joined {
-        Some(joined) => joined,
-        None => before,
-    }
 }

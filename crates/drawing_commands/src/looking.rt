@@ -5,10 +5,11 @@ ghost use Rattle.program_shell.specs.Products.{product_value};
 ghost use Rattle.program_shell.specs.StepOutcomes.{RunsPlan, RunsPurePlan};
 ghost use Rattle.std.specs.Prelude.{IfOk};
 
-use crate::look_texts::describe_look;
 use design_model::Memory;
-use drawing_review::review;
 use line_graph::pieces;
+use line_meetings::find_meetings;
+use line_sections::lines_extent;
+use look_reports::{describe_look, short_spacings};
 use outside_io::Store;
 use piece_stitches::piece_stitches;
 use program_inputs::{LinesRead, lines_in};
@@ -38,12 +39,15 @@ fn look_product<'a>(alloc: Global, gap: u16, read: &LinesRead) -> Result<Product
     let pieces = pieces(alloc, &read.drawing)?;
     let stitches = piece_stitches(alloc, &read.drawing, pieces.as_slice())?;
     let lines = &read.drawn.drawing;
-    let places = review(alloc, lines.step(), gap, lines.lines())?;
+    let meetings = find_meetings(alloc, lines.lines(), gap)?;
+    let spacings = short_spacings(alloc, lines.step(), lines.lines())?;
     let report = describe_look(
         alloc,
+        lines_extent(lines.lines()),
         pieces.as_slice(),
         stitches.as_slice(),
-        places.as_slice(),
+        meetings.as_slice(),
+        spacings.as_slice(),
     )?;
     Ok(only_report(alloc, report))
 }

@@ -1,14 +1,14 @@
 ghost use Rattle.command_words.specs.ValidNames.{AreFileNames};
-ghost use Rattle.drawing_commands.specs.NearFiles.{IsNearProduct, near_drawing, near_file_order, near_kept, near_plan, near_report, version_one_text};
+ghost use Rattle.drawing_commands.specs.NearFiles.{IsNearProduct, near_drawing, near_file_order, near_kept, near_plan, near_report};
 ghost use Rattle.line_graph.specs.EndOrders.{HasOrderedEnds};
 ghost use Rattle.line_graph.specs.JoinedDrawings.{is_joined};
-ghost use Rattle.program_shell.specs.FileTexts.{text_about};
 ghost use Rattle.program_shell.specs.Products.{product_value};
-ghost use Rattle.program_shell.specs.StepOutcomes.{IsRefusalWith, RunsPlan, RunsPurePlan};
+ghost use Rattle.program_shell.specs.StepOutcomes.{RunsPlan, RunsPurePlan};
 ghost use Rattle.std.specs.Prelude.{◌≡◌, ◌==◌, IfOk, length, string_bytes, true};
 
 use crate::edited_files::text_of;
 use crate::space_texts::space_failure;
+use crate::version_one::not_kept;
 use command_words::FileNames;
 use design_model::Memory;
 use drawing_text::texts_order_ends;
@@ -16,7 +16,7 @@ use line_graph::Drawing;
 use near_pieces::{NearDrawing, draw_with, near};
 use outside_io::Store;
 use program_inputs::drawing_in;
-use program_shell::{Failure, Made, Product, describe_file, one_output, refused, text_bytes};
+use program_shell::{Made, Product, one_output, text_bytes};
 use std::alloc::Global;
 
 /// Sews the pieces of each block of a drawing in an order with little travel.
@@ -60,20 +60,6 @@ fn near_if_kept<'a>(alloc: Global, names: FileNames<'a>, before: &Drawing, lines
     }
     let product = near_product(alloc, names.output, before)?;
     Ok(product)
-}
-
-/// Returns the refusal of a drawing of version 1 whose lines would be cut, or out of memory.
-fn not_kept<'a>(alloc: Global, name: &str) -> Failure<'a>
-    ensures { IsRefusalWith (text_about name.now version_one_text) result }
-{
-    refused(describe_file(alloc, name, version_one()))
-}
-
-/// Returns what is wrong with a drawing of version 1 whose lines would be cut.
-fn version_one() -> &'static str
-    ensures { result.now ≡ version_one_text }
-{
-    "redwork 1 can't be kept: migrate it first"
 }
 
 fn near_product<'a>(alloc: Global, output: &'a str, before: &Drawing) -> Result<Product<'a>, Memory>

@@ -3,10 +3,11 @@ ghost use Rattle.design_model.specs.WholeNumbers.{parsed_whole};
 ghost use Rattle.design_model.specs.declared.whole_number.Whole.TheVariants as whole;
 ghost use Rattle.drawing_commands.specs.DrawingEditWords.{first_mistaken_edit, parsed_drawing_edits};
 ghost use Rattle.drawing_commands.specs.Mistakes.{mistaken_word};
-ghost use Rattle.drawing_commands.specs.Names.{gap_of, gap_or_mistake, name_or_mistake, named_words, nothing_after, parsed_gap, parsed_names, unless_input};
-ghost use Rattle.drawing_commands.specs.Requests.{command_order, drawing_edit_parsed, edits_after, edits_parsed, HasFileNames, order_of_request, parsed_drawing_words, parsed_free, parsed_look, parsed_near, parsed_snap, parsed_space};
+ghost use Rattle.drawing_commands.specs.Names.{gap_of, gap_or_mistake, name_or_mistake, named_words, nothing_after, parsed_gap, parsed_keep, parsed_names, unless_input};
+ghost use Rattle.drawing_commands.specs.Requests.{command_order, drawing_edit_parsed, edits_after, edits_parsed, HasFileNames, order_of_request, parsed_cross, parsed_drawing_words, parsed_free, parsed_look, parsed_near, parsed_snap, parsed_space};
 ghost use Rattle.outside_io.specs.Files.{IsFileName};
-ghost use Rattle.std.specs.Prelude.{◌≡◌, ◌≤◌, Err, IfErr, IfOk, Ok, Some, length, map, option_map, string_bytes};
+ghost use Rattle.drawing_commands.specs.declared.requests.TheConstants.{MAX_GAP};
+ghost use Rattle.std.specs.Prelude.{◌≡◌, ◌≤◌, Err, IfErr, IfOk, IfSome, Ok, Some, length, map, option_map, string_bytes};
 
 use crate::drawing_edit_words::first_mistaken_edit;
 use crate::mistake::{Misfit, Mistake};
@@ -30,9 +31,16 @@ pub enum DrawingRequest<'a> {
         file: &'a str,
         gap: u16,
     },
-    /// A snapped drawing, with a gap in tenths of a millimetre.
+    /// A snapped drawing, with a gap in tenths of a millimetre. Copies of segments are left out, unless they are
+    /// kept.
     Snap {
         gap: u16,
+        keeps_copies: bool,
+        names: FileNames<'a>,
+    },
+    /// A drawing whose lines list where they cross. Copies of segments are left out, unless they are kept.
+    Cross {
+        keeps_copies: bool,
         names: FileNames<'a>,
     },
     /// A spaced drawing, with what is given of the rule.
@@ -58,7 +66,7 @@ pub enum DrawingRequest<'a> {
 /// What the arguments of a command request, or the first that isn't understood.
 type Requested<'a> = Result<DrawingRequest<'a>, Mistake<'a>>;
 
-/// Parses the arguments: `look DRAWING [GAP]`, `snap GAP DRAWING OUT`, `space DRAWING OUT [length=N] [leeway=N]`,
+/// Parses the arguments: `look DRAWING [GAP]`, `snap GAP DRAWING OUT [--keep]`, `cross DRAWING OUT [--keep]`, `space DRAWING OUT [length=N] [leeway=N]`,
 /// `free DRAWING OUT`, `near DRAWING OUT`, `edit DRAWING OUT EDIT...`, `--help` or `--version`. The error is the first that isn't understood, and `None` without
 /// arguments. Allocates nothing.
 pub fn drawing_request(words: &[String]) -> Result<DrawingRequest<'_>, Option<Mistake<'_>>>
@@ -87,6 +95,7 @@ fn command_request<'a>(command: &'a str, words: &'a [String]) -> Requested<'a>
     match command {
         name if name == "look" => look_request(command, words),
         name if name == "snap" => snap_request(command, words),
+        name if name == "cross" => cross_request(command, words),
         name if name == "space" => space_request(command, words),
         name if name == "free" => free_request(command, words),
         name if name == "near" => near_request(command, words),
@@ -152,7 +161,47 @@ fn snap_request<'a>(command: &'a str, words: &'a [String]) -> Requested<'a>
     };
     let gap = parse_gap(gap_word.as_str())?;
     let (names, after) = named_rest(gap_word.as_str(), rest)?;
-    alone(DrawingRequest::Snap { gap, names }, after)
+    let keeps_copies = keep_after(after)?;
+    Ok(DrawingRequest::Snap {
+        gap,
+        keeps_copies,
+        names,
+    })
+}
+
+fn cross_request<'a>(command: &'a str, words: &'a [String]) -> Requested<'a>
+    ensures ok { IfOk result (λ requested.
+        parsed_cross command.now (map (λ word. string_bytes word) words.now) ≡ Ok (order_of_request requested)) }
+    ensures err { IfErr result (λ mistake.
+        parsed_cross command.now (map (λ word. string_bytes word) words.now) ≡ Err (mistaken_word mistake)) }
+    ensures sound { IfOk result HasFileNames }
+{
+    let (names, after) = named_rest(command, words)?;
+    let keeps_copies = keep_after(after)?;
+    Ok(DrawingRequest::Cross {
+        keeps_copies,
+        names,
+    })
+}
+
+/// Parses the arguments after the files of `snap` and `cross`: `--keep`, or none.
+fn keep_after(words: &[String]) -> Result<bool, Mistake<'_>>
+    ensures ok { IfOk result (λ keeps. parsed_keep (map (λ word. string_bytes word) words.now) ≡ Ok keeps) }
+    ensures err { IfErr result (λ mistake.
+        parsed_keep (map (λ word. string_bytes word) words.now) ≡ Err (mistaken_word mistake)) }
+{
+    match words {
+        [] => Ok(false),
+        [word] if word.as_str() == "--keep" => Ok(true),
+        [word, more, ..] if word.as_str() == "--keep" => Err(Mistake {
+            word: more.as_str(),
+            why: Misfit::NotUnderstood,
+        }),
+        [word, ..] => Err(Mistake {
+            word: word.as_str(),
+            why: Misfit::NotUnderstood,
+        }),
+    }
 }
 
 fn space_request<'a>(command: &'a str, words: &'a [String]) -> Requested<'a>
@@ -308,6 +357,7 @@ fn apart<'a>(input: &str, output: &'a str) -> Result<&'a str, Mistake<'a>>
 fn parse_gap(word: &str) -> Result<u16, Mistake<'_>>
     ensures ok { IfOk result (λ gap. gap_or_mistake word.now ≡ Ok gap) }
     ensures err { IfErr result (λ mistake. gap_or_mistake word.now ≡ Err (mistaken_word mistake)) }
+    ensures small { IfOk result (λ gap. gap ≤ MAX_GAP) }
 {
     match gap_in(word.as_bytes()) {
         Some(gap) => Ok(gap),
@@ -319,7 +369,8 @@ fn parse_gap(word: &str) -> Result<u16, Mistake<'_>>
 }
 
 fn gap_in(word: &[u8]) -> Option<u16>
-    ensures { result ≡ gap_of (parsed_whole word.now) }
+    ensures value { result ≡ gap_of (parsed_whole word.now) }
+    ensures small { IfSome result (λ gap. gap ≤ MAX_GAP) }
 {
     match parse_whole(word) {
         Whole::Value(n) => gap_in_range(n),
@@ -328,7 +379,8 @@ fn gap_in(word: &[u8]) -> Option<u16>
 }
 
 fn gap_in_range(n: i32) -> Option<u16>
-    ensures { result ≡ gap_of (whole.Value n) }
+    ensures value { result ≡ gap_of (whole.Value n) }
+    ensures small { IfSome result (λ gap. gap ≤ MAX_GAP) }
 {
     match u16::try_from(n) {
         Ok(n) if n <= MAX_GAP => Some(n),

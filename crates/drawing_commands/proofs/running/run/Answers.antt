@@ -1,5 +1,5 @@
 use Rattle.std.proofs.Common.{◌∙◌, None, ap}
-use Rattle.companion_words.specs.UsageTexts.{usage_with}
+use Rattle.program_texts.specs.CompanionUsage.{usage_with}
 use Rattle.drawing_commands.proofs.Names.{can_finish, stitch_drawing_after}
 use Rattle.drawing_commands.proofs.CommandLemmas.{drawing_ends}
 use Rattle.drawing_commands.specs.Usage.{drawing_program_name, drawing_usage_text}

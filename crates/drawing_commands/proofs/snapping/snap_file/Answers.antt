@@ -1,6 +1,0 @@
-use Rattle.drawing_commands.proofs.Names.{settles_taken, snap_order, snap_read}
-use Rattle.drawing_commands.proofs.snapping.snap_file.Goals as goal
-
-pub returns : goal.returns
-returns g c = settles_taken _ _ (snap_read (snap_order c.args.gap c.args.names.input.now c.args.names.output.now)) _ _ _ _
-    c.in_ok-read.ensures.takes c.snap_lines_of.ensures

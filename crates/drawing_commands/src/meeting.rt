@@ -1,0 +1,138 @@
+ghost use Rattle.command_words.specs.ValidNames.{AreFileNames};
+ghost use Rattle.drawing_commands.specs.MeetOrders.{IsMeetProduct, cross_order, meet_lines, meet_plan, meet_report, snap_order};
+ghost use Rattle.drawing_commands.specs.WholeProducts.{IsWhole};
+ghost use Rattle.drawing_commands.specs.declared.requests.TheConstants.{MAX_GAP};
+ghost use Rattle.line_graph.specs.EndOrders.{HasOrderedEnds};
+ghost use Rattle.program_shell.specs.Products.{product_value};
+ghost use Rattle.program_shell.specs.StepOutcomes.{RunsPlan, RunsPurePlan};
+ghost use Rattle.std.specs.Prelude.{◌≡◌, ◌≤◌, IfOk};
+
+use crate::meet_texts::{describe_cross, describe_snap, meet_failure};
+use crate::whole_files::whole_product;
+use command_words::FileNames;
+use design_model::{Bytes, Memory};
+use line_graph::{Drawing, pieces};
+use met_drawings::{MeetingCounts, MeetingRule, MetDrawing, meet};
+use outside_io::Store;
+use program_inputs::{LinesRead, lines_in};
+use program_shell::{Made, Product};
+use std::alloc::Global;
+
+/// Which command reports.
+#[derive(Clone, Copy)]
+pub enum MeetReport {
+    Snap,
+    Cross,
+}
+
+/// Makes points of a drawing meet that are within a gap, and writes its lines whole, with its starts and ends.
+pub(crate) fn snap_file<'a, S: Store>(
+    alloc: Global,
+    gap: u16,
+    keeps_copies: bool,
+    names: FileNames<'a>,
+    store: &mut S,
+) -> Made<'a>
+    requires names { AreFileNames names }
+    requires gap { gap ≤ MAX_GAP }
+    ensures { RunsPlan (meet_plan
+        (snap_order gap keeps_copies names.entry.input.now names.entry.output.now))
+        (S.view store.old) (S.view store.new) result }
+{
+    let read = lines_in(alloc, store, names.input)?;
+    let rule = MeetingRule {
+        gap,
+        lists_crossings: false,
+        keeps_copies,
+    };
+    meet_lines_of(alloc, rule, MeetReport::Snap, names, &read)
+}
+
+/// Makes lines of a drawing list where they cross, and writes them whole, with its starts and ends.
+pub(crate) fn cross_file<'a, S: Store>(
+    alloc: Global,
+    keeps_copies: bool,
+    names: FileNames<'a>,
+    store: &mut S,
+) -> Made<'a>
+    requires { AreFileNames names }
+    ensures { RunsPlan (meet_plan
+        (cross_order keeps_copies names.entry.input.now names.entry.output.now))
+        (S.view store.old) (S.view store.new) result }
+{
+    let read = lines_in(alloc, store, names.input)?;
+    let rule = MeetingRule {
+        gap: 0,
+        lists_crossings: true,
+        keeps_copies,
+    };
+    meet_lines_of(alloc, rule, MeetReport::Cross, names, &read)
+}
+
+/// Makes the lines of a drawing meet as they are drawn, with its starts and ends.
+fn meet_lines_of<'a>(
+    alloc: Global,
+    rule: MeetingRule,
+    report: MeetReport,
+    names: FileNames<'a>,
+    read: &LinesRead,
+) -> Made<'a>
+    requires names { AreFileNames names }
+    requires ordered { HasOrderedEnds read.now.drawing }
+    requires gap { rule.gap ≤ MAX_GAP }
+    ensures { RunsPurePlan (meet_lines (record {
+      rule = rule;
+      report = report;
+      input = names.entry.input.now;
+      output = names.entry.output.now;
+    }) read.now) result }
+{
+    let drawing = &read.drawing;
+    match meet(
+        alloc,
+        rule,
+        &read.drawn.drawing,
+        drawing.starts(),
+        drawing.ends(),
+    ) {
+        Ok(met) => {
+            let product = meet_product(alloc, report, names.output, drawing, &met)?;
+            Ok(product)
+        }
+        Err(fault) => Err(meet_failure(alloc, names.input, fault)),
+    }
+}
+
+fn meet_product<'a>(
+    alloc: Global,
+    report: MeetReport,
+    output: &'a str,
+    drawing: &Drawing,
+    met: &MetDrawing,
+) -> Result<Product<'a>, Memory>
+    requires { IsWhole met.now.drawn met.now.joined }
+    ensures { IfOk result (λ product.
+        IsMeetProduct report output.now drawing.now met.now (product_value product)) }
+{
+    let before = pieces(alloc, drawing)?;
+    let after = pieces(alloc, &met.joined)?;
+    let text = described(alloc, report, met.counts, before.len(), after.len())?;
+    let product = whole_product(alloc, output, &met.drawn, &met.joined, text)?;
+    Ok(product)
+}
+
+/// Returns the report of a command on what was done to lines.
+fn described(
+    alloc: Global,
+    report: MeetReport,
+    counts: MeetingCounts,
+    before: usize,
+    after: usize,
+) -> Result<Bytes, Memory>
+    ensures { IfOk result (λ text. text ≡ meet_report report counts before after) }
+{
+    match report {
+        MeetReport::Snap => describe_snap(alloc, counts, before, after),
+        MeetReport::Cross => describe_cross(alloc, counts, before, after),
+    }
+}
