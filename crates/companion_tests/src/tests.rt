@@ -1,3 +1,4 @@
+mod cross_runs;
 mod edit_runs;
 mod free_runs;
 mod look_runs;

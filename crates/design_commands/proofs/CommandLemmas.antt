@@ -1,8 +1,8 @@
 -- What is proved of each command: its plan decides, and the outputs of its products are the files that it writes.
 use Rattle.std.proofs.Common.{◌≡◌, true, false, ℕ, Bool, List, [], ◌∷◌, Option, Some, None, Result, Ok, Err}
-use Rattle.design_differences.specs.declared.difference.ActDifference.{ActDifference}
-use Rattle.design_differences.specs.declared.difference.ThreadDifference.{ThreadDifference}
-use Rattle.design_differences.specs.Differences.{act_difference_of, thread_difference_of}
+use Rattle.design_review.specs.declared.difference.ActDifference.{ActDifference}
+use Rattle.design_review.specs.declared.difference.ThreadDifference.{ThreadDifference}
+use Rattle.design_review.specs.Differences.{act_difference_of, thread_difference_of}
 use Rattle.design_model.specs.Designs.{DesignValue}
 use Rattle.design_review.specs.declared.place.DesignPlace.{DesignPlace}
 use Rattle.design_review.specs.Places.{places_of}
@@ -18,8 +18,8 @@ use Rattle.program_shell.specs.declared.product.Product.{Product}
 use Rattle.program_shell.specs.declared.status.Status.{Status}
 use Rattle.design_commands.specs.Commands.{DesignOrder, comparing, design_outputs_of, design_plan_of, editing, listing, looking, passing, stitch_design_after, telling}
 use Rattle.design_commands.specs.CompareOrders.{CompareOrder, compare_first, compare_second, compared, compared_acts, compared_threads}
-use Rattle.companion_words.specs.MistakenWords.{MistakenWord}
-use Rattle.companion_words.specs.UsageTexts.{usage_with}
+use Rattle.program_texts.specs.MistakenWords.{MistakenWord}
+use Rattle.program_texts.specs.CompanionUsage.{usage_with}
 use Rattle.design_commands.specs.EditOrders.{DesignEditOrder, design_edit_read, edited_design_plan}
 use Rattle.design_commands.specs.DesignOutputs.{IsDesignOutput, IsUnwritableText, WritesDesign}
 use Rattle.edited_designs.specs.declared.design_fault.BadDesignEdit.{BadDesignEdit}

@@ -1,7 +1,7 @@
 -- Runs over formats that are the five, and formats at places of a list.
 use Rattle.std.proofs.Common.{◌≡◌, ℕ, zero, suc, ◌<◌, List, [], ◌∷◌, Option, Some, Result, length, map, slice_get, ap, arith, refl, subst, ◌∙◌}
 use Rattle.std.specs.Option.{option_and_then}
-use Rattle.companion_words.specs.MistakenWords.{MistakenWord}
+use Rattle.program_texts.specs.MistakenWords.{MistakenWord}
 use Rattle.format_traits.specs.Endings.{format_index, format_of}
 use Rattle.outside_io.specs.Views.{StoreView}
 use Rattle.program_shell.specs.StepOutcomes.{RunsPlan, RunsRequest}

@@ -1,6 +1,6 @@
 -- Worked requests, and mistakes of arguments: the first that isn't understood is named, with what is wrong with it.
 use Rattle.std.proofs.Common.{◌≡◌, ◌∷◌, [], ℕ, List, Some, None, Ok, Err, true, false, codes, refl}
-use Rattle.companion_words.specs.MistakenWords.{mistaken}
+use Rattle.program_texts.specs.MistakenWords.{mistaken}
 use Rattle.edited_designs.specs.DesignChanges.{bared, needled, tied}
 use Rattle.design_commands.specs.Commands.{design_mistake, design_order, telling}
 use Rattle.design_commands.specs.EditRequests.{RequestedDesign, compare, edit, help, list, look, palette, pass, version}

@@ -1,9 +1,9 @@
 -- The command `compare`: whether the designs of two files have the same acts, and the same threads
 -- if it is asked for.
 use Rattle.std.specs.Prelude.{◌≡◌, ℕ, Bool, true, false, List, [], Option, Some, None, Result, Ok, Err}
-use Rattle.design_differences.specs.declared.difference.ActDifference.{ActDifference}
-use Rattle.design_differences.specs.declared.difference.ThreadDifference.{ThreadDifference}
-use Rattle.design_differences.specs.Differences.{act_difference_of, thread_difference_of}
+use Rattle.design_review.specs.declared.difference.ActDifference.{ActDifference}
+use Rattle.design_review.specs.declared.difference.ThreadDifference.{ThreadDifference}
+use Rattle.design_review.specs.Differences.{act_difference_of, thread_difference_of}
 use Rattle.design_model.specs.Designs.{DesignValue}
 use Rattle.format_traits.specs.declared.fault.ReadFault.{ReadFault}
 use Rattle.format_traits.specs.declared.loaded.Loaded.{Loaded}

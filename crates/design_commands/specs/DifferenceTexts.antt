@@ -4,8 +4,8 @@ use Rattle.std.specs.Fmt.{signed_decimal}
 use Rattle.design_model.specs.declared.act.Act.{Act}
 use Rattle.design_model.specs.declared.act.Act.TheVariants as act
 use Rattle.design_model.specs.declared.point.Point.{Point}
-use Rattle.design_differences.specs.declared.difference.ActDifference.{ActDifference}
-use Rattle.design_differences.specs.declared.difference.ThreadDifference.{ThreadDifference}
+use Rattle.design_review.specs.declared.difference.ActDifference.{ActDifference}
+use Rattle.design_review.specs.declared.difference.ThreadDifference.{ThreadDifference}
 
 -- A point after a word.
 abbrev pub point_after : List ℕ → Point → List ℕ

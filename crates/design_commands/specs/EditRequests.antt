@@ -1,6 +1,6 @@
 -- The requests of stitch_design, and what the arguments of `edit` request.
 use Rattle.std.specs.Prelude.{ℕ, Bool, List, [], ◌∷◌, Option, Some, None, Result, Ok, Err, bytes_eq, if◌then◌else◌}
-use Rattle.companion_words.specs.MistakenWords.{MistakenWord, then_with}
+use Rattle.program_texts.specs.MistakenWords.{MistakenWord, then_with}
 use Rattle.outside_io.specs.Files.{is_file_name}
 use Rattle.design_review.specs.declared.limits.ReviewLimits.{ReviewLimits}
 use Rattle.design_commands.specs.declared.mistake.Misfit.TheVariants as misfit

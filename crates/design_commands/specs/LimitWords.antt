@@ -8,7 +8,7 @@ use Rattle.design_commands.specs.declared.limit_words.LimitKey.{LimitKey}
 use Rattle.design_commands.specs.declared.limit_words.LimitKey.TheVariants as key
 use Rattle.design_commands.specs.declared.limit_words.TheConstants.{MAX_LIMIT}
 use Rattle.design_commands.specs.declared.mistake.Misfit.TheVariants as misfit
-use Rattle.companion_words.specs.MistakenWords.{MistakenWord, then_with}
+use Rattle.program_texts.specs.MistakenWords.{MistakenWord, then_with}
 use Rattle.design_commands.specs.Mistakes.{mistake_at}
 use Rattle.text_parts.specs.Parts.{split_at_byte}
 

@@ -3,7 +3,7 @@
 use Rattle.std.specs.Prelude.{ℕ, Bool, true, false, List, [], ◌∷◌, Option, Some, None, IsSome, Result, Ok, Err, bytes_eq, codes, map, string_bytes, if◌then◌else◌}
 use Rattle.command_words.specs.declared.names.FileNames.{FileNames}
 use Rattle.command_words.specs.ValidNames.{AreFileNames}
-use Rattle.companion_words.specs.MistakenWords.{MistakenWord, then_with, with_some_mistake}
+use Rattle.program_texts.specs.MistakenWords.{MistakenWord, then_with, with_some_mistake}
 use Rattle.outside_io.specs.Files.{IsFileName, is_file_name}
 use Rattle.design_review.specs.declared.limits.ReviewLimits.{ReviewLimits}
 use Rattle.design_commands.specs.declared.mistake.Misfit.TheVariants as misfit

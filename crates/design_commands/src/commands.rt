@@ -1,7 +1,7 @@
 ghost use Rattle.design_commands.specs.Commands.{comparing, editing, first_format_mistake, format_mistake, if_both_known, looking, listing, mistake_of_design, order_of_design, passing, stitch_design_after, telling};
 ghost use Rattle.design_commands.specs.CompareOrders.{compare_order};
 ghost use Rattle.command_words.specs.ValidNames.{AreFileNames};
-ghost use Rattle.companion_words.specs.MistakenWords.{MistakenWord};
+ghost use Rattle.program_texts.specs.MistakenWords.{MistakenWord};
 ghost use Rattle.design_commands.specs.EditOrders.{design_edit_order};
 ghost use Rattle.design_commands.specs.Mistakes.{mistaken_word};
 ghost use Rattle.design_commands.specs.Requests.{HasDesignNames, requested_design};
@@ -23,11 +23,11 @@ use crate::requests::DesignRequest;
 use crate::thread_texts::describe_palette;
 use crate::usage::{NAME, usage};
 use command_words::FileNames;
-use companion_words::version_text;
 use design_review::ReviewLimits;
 use format_traits::{Format, find};
 use outside_io::Store;
 use program_shell::{Failure, Made, bytes_of, only_report};
+use program_texts::version_text;
 use std::alloc::Global;
 
 /// Makes the product of a request. Reads the inputs from the store, and writes nothing.

@@ -6,8 +6,8 @@ ghost use Rattle.program_shell.specs.StepOutcomes.{IsRefusalWith, RunsPlan, Runs
 ghost use Rattle.std.specs.Prelude.{◌≡◌, ◌<◌, Ok, Some, length, map, slice_get};
 
 use crate::difference_texts::{describe_acts, describe_block};
-use design_differences::{ActDifference, ThreadDifference, act_difference, thread_difference};
 use design_model::{Bytes, Design};
+use design_review::{ActDifference, ThreadDifference, act_difference, thread_difference};
 use format_traits::{Format, Loaded};
 use outside_io::Store;
 use program_inputs::load_at;

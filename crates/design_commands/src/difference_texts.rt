@@ -1,8 +1,8 @@
 ghost use Rattle.design_commands.specs.DifferenceTexts.{act_difference_text, compared_act_text, point_after, thread_difference_text};
 ghost use Rattle.std.specs.Prelude.{◌≡◌, ◌++◌, IfOk, OnOk, string_bytes};
 
-use design_differences::{ActDifference, ThreadDifference};
 use design_model::{Act, Bytes, Memory, Point};
+use design_review::{ActDifference, ThreadDifference};
 use std::alloc::Global;
 
 /// Returns the text about two acts that differ.

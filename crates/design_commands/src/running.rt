@@ -1,5 +1,5 @@
 ghost use Rattle.design_commands.specs.Commands.{design_mistake, design_order, stitch_design_after};
-ghost use Rattle.companion_words.specs.MistakenWords.{MistakenWord};
+ghost use Rattle.program_texts.specs.MistakenWords.{MistakenWord};
 ghost use Rattle.design_commands.specs.Mistakes.{mistaken_word};
 ghost use Rattle.program_shell.specs.ProgramRuns.{RunEnds};
 ghost use Rattle.program_shell.specs.RunViews.{views_of};

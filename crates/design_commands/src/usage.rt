@@ -1,11 +1,11 @@
-ghost use Rattle.companion_words.specs.UsageTexts.{usage_with};
-ghost use Rattle.companion_words.specs.declared.usage_text.TheConstants.{MAX_USAGE};
+ghost use Rattle.program_texts.specs.CompanionUsage.{usage_with};
+ghost use Rattle.program_texts.specs.declared.companion_usage.TheConstants.{MAX_USAGE};
 ghost use Rattle.design_commands.specs.Mistakes.{mistaken_word};
 ghost use Rattle.design_commands.specs.Usage.{design_program_name, design_usage_text};
 ghost use Rattle.std.specs.Prelude.{◌≡◌, ◌≤◌, length, option_map};
 
 use crate::mistake::Mistake;
-use companion_words::{UsageText, usage_after, usage_alone};
+use program_texts::{UsageText, usage_after, usage_alone};
 
 /// The name of the program, with which each line on the standard error begins.
 pub const NAME: &[u8] = b"stitch_design";

@@ -8,8 +8,8 @@ use Rattle.line_graph.specs.Drawings.{DrawingValue}
 use Rattle.line_graph.specs.PieceGraphs.{piece_graph}
 use Rattle.line_graph.specs.UniquePieces.{PiecesAreUnique}
 use Rattle.odd_cuts.specs.declared.certificate.PieceCert.{PieceCert}
-use Rattle.companion_words.specs.MistakenWords.{MistakenWord}
-use Rattle.companion_words.specs.UsageTexts.{usage_with}
+use Rattle.program_texts.specs.MistakenWords.{MistakenWord}
+use Rattle.program_texts.specs.CompanionUsage.{usage_with}
 use Rattle.outside_io.specs.Views.{SinkView, StoreView}
 use Rattle.program_shell.specs.ExactPlans.{IsSoundProgram}
 use Rattle.program_shell.specs.FinishedRuns.{FinishesRun}

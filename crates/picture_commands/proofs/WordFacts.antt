@@ -1,6 +1,6 @@
 -- Worked values of requests, of mistakes, and of orders.
 use Rattle.std.proofs.Common.{◌≡◌, ℕ, List, true, false, [], ◌∷◌, Option, Some, None, Ok, Err, codes, map, replicate, refl}
-use Rattle.companion_words.specs.MistakenWords.{MistakenWord, mistaken}
+use Rattle.program_texts.specs.MistakenWords.{MistakenWord, mistaken}
 use Rattle.format_traits.specs.Meanings.{Meaning}
 use Rattle.picture_commands.specs.Orders.{drawing, picture_mistake, picture_order, proving, showing, telling}
 use Rattle.picture_commands.specs.Names.{has_svg_ending, side_word}

@@ -1,6 +1,6 @@
 -- Definitions of a lower crate that public clauses cite.
-pub use Rattle.companion_words.specs.MistakenWords
-pub use Rattle.companion_words.specs.UsageTexts
+pub use Rattle.program_texts.specs.MistakenWords
+pub use Rattle.program_texts.specs.CompanionUsage
 -- Read this one first: the orders of the program.
 pub mod Orders
 pub mod Pictures

@@ -1,6 +1,6 @@
 -- The first argument that isn't understood, and what is said of it.
 use Rattle.std.specs.Prelude.{ℕ, List, codes}
-use Rattle.companion_words.specs.MistakenWords.{MistakenWord, mistaken}
+use Rattle.program_texts.specs.MistakenWords.{MistakenWord, mistaken}
 use Rattle.picture_commands.specs.declared.mistake.Misfit.{Misfit}
 use Rattle.picture_commands.specs.declared.mistake.Misfit.TheVariants as misfit
 use Rattle.picture_commands.specs.declared.mistake.Mistake.{Mistake}

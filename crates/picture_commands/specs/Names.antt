@@ -1,6 +1,6 @@
 -- The names among the arguments of stitch_picture, and the sides of a hoop.
 use Rattle.std.specs.Prelude.{ℕ, ◌-◌, Bool, List, Option, Some, None, Result, Ok, Err, bytes_eq, codes, drop, length, if◌then◌else◌}
-use Rattle.companion_words.specs.MistakenWords.{MistakenWord}
+use Rattle.program_texts.specs.MistakenWords.{MistakenWord}
 use Rattle.command_words.specs.Arguments.{natural_within}
 use Rattle.design_model.specs.WholeNumbers.{parsed_whole}
 use Rattle.outside_io.specs.Files.{is_file_name}

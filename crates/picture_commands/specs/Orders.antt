@@ -1,7 +1,7 @@
 -- The orders of stitch_picture, their plans, and the program.
 use Rattle.std.specs.Prelude.{◌≡◌, ℕ, List, [], ◌∷◌, Option, Some, None, Result, Ok, Err}
-use Rattle.companion_words.specs.MistakenWords.{MistakenWord}
-use Rattle.companion_words.specs.UsageTexts.{usage_with, version_line}
+use Rattle.program_texts.specs.MistakenWords.{MistakenWord}
+use Rattle.program_texts.specs.CompanionUsage.{usage_with, version_line}
 use Rattle.design_picture.specs.declared.hoop.Hoop.{Hoop}
 use Rattle.format_traits.specs.Endings.{format_of}
 use Rattle.format_traits.specs.Meanings.{Meaning}

@@ -2,7 +2,7 @@
 -- or none, the picture of a proof, the usage text or the version; or the first argument that isn't
 -- understood.
 use Rattle.std.specs.Prelude.{ℕ, List, [], ◌∷◌, Option, Some, None, Result, Ok, Err, bytes_eq, codes, if◌then◌else◌}
-use Rattle.companion_words.specs.MistakenWords.{MistakenWord, then_with, with_some_mistake}
+use Rattle.program_texts.specs.MistakenWords.{MistakenWord, then_with, with_some_mistake}
 use Rattle.design_picture.specs.declared.hoop.Hoop.{Hoop}
 use Rattle.outside_io.specs.Files.{IsFileName}
 use Rattle.picture_commands.specs.declared.mistake.Misfit.TheVariants as misfit

@@ -1,4 +1,4 @@
-ghost use Rattle.companion_words.specs.declared.usage_text.TheConstants.{MAX_WHY};
+ghost use Rattle.program_texts.specs.declared.companion_usage.TheConstants.{MAX_WHY};
 ghost use Rattle.picture_commands.specs.Mistakes.{misfit_text};
 ghost use Rattle.std.specs.Prelude.{◌≡◌, ◌≤◌, length};
 

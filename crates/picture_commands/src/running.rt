@@ -1,4 +1,4 @@
-ghost use Rattle.companion_words.specs.MistakenWords.{MistakenWord};
+ghost use Rattle.program_texts.specs.MistakenWords.{MistakenWord};
 ghost use Rattle.format_traits.specs.Endings.{format_of};
 ghost use Rattle.picture_commands.specs.Mistakes.{mistaken_word};
 ghost use Rattle.picture_commands.specs.Orders.{mistake_of_picture, order_of_picture, order_with, order_without_format, picture_mistake, picture_order, picture_program_after};
@@ -15,11 +15,11 @@ use crate::proving::prove;
 pub use crate::usage::PROGRAM;
 use crate::usage::{usage, usage_text};
 use crate::words::{FileNames, PictureRequest, request};
-use companion_words::version_text;
 use format_traits::{Format, find};
 use line_graph::pieces_are_unique;
 use outside_io::{Sink, Store};
 use program_shell::{Failure, Made, Status, bytes_of, finish, only_report};
+use program_texts::version_text;
 use std::alloc::Global;
 
 /// Draws the picture that the arguments request, and returns the exit status. If nothing is refused, writes

@@ -2,9 +2,9 @@
 use super::table_runs::Run;
 use crate::{done, faulted, misused, refused};
 
-/// A star of four lines beside a closed line, pieces with and without a start or an end, lines that meet inside in
-/// version 1, and texts with faults. The best ends of the star are the tips of two of its longest lines, of 3 and of 2
-/// steps, which then are sewn once.
+/// A star of four lines beside a closed line, pieces with and without a start or an end, lines of version 1 that meet
+/// inside or at their ends, and texts with faults. The best ends of the star are the tips of two of its longest lines,
+/// of 3 and of 2 steps, which then are sewn once.
 pub const FILES: &[(&str, &str)] = &[
     (
         "star.rw",
@@ -21,6 +21,10 @@ pub const FILES: &[(&str, &str)] = &[
     (
         "one.rw",
         "redwork 1\nstep 20\ncolor 1\nline 0 0 8 0 16 0\nline 8 0 8 5\n",
+    ),
+    (
+        "path.rw",
+        "redwork 1\nstep 20\ncolor 1\nline 0 0 8 0\nline 8 0 8 5\n",
     ),
     ("bad.rw", "redwork 2\ncolor 1\nline 0 0 40\n"),
     (
@@ -39,9 +43,10 @@ pub const RUNS: &[Run] = &[
     done!("free closed.rw out.rw" =>
         "penetrations 10 to 10 pieces 1\n",
         "redwork 2\nstep 10\ncolor 1\nline 0 0 30 0 30 30 0 0\n"),
-    done!("free one.rw out.rw" =>
-        "block 1 piece 1 start 16 0 end 8 5 penetrations 7 to 5\npenetrations 7 to 5 pieces 1\n",
-        "redwork 3\nstep 20\ncolor 1\nline 0 0 8 0 16 0\nline 8 0 8 5\nstart 16 0\nend 8 5\n"),
+    done!("free path.rw out.rw" =>
+        "block 1 piece 1 start 8 5 end 0 0 penetrations 5 to 3\npenetrations 5 to 3 pieces 1\n",
+        "redwork 3\nstep 20\ncolor 1\nline 0 0 8 0\nline 8 0 8 5\nstart 8 5\nend 0 0\n"),
+    refused!("free one.rw out.rw" => "stitch_drawing: one.rw: redwork 1 can't be kept: migrate it first\n"),
     refused!("free bad.rw out.rw" => "stitch_drawing: bad.rw: line 3: too few points\n"),
     refused!("free astray.rw out.rw" => "stitch_drawing: astray.rw: line 4: not a junction\n"),
     faulted!("free none.rw out.rw" => "stitch_drawing: cannot read none.rw\n"),

@@ -1,13 +1,15 @@
 //! Runs of `stitch_drawing snap` over files in memory.
 use super::table_runs::Run;
-use crate::{done, refused};
+use crate::{done, misused, refused};
 
 const SNAPPED: &str =
-    "redwork 2\nname loose\nstep 10\ncolor 7\nline 0 0 20 2 40 0 80 0\nline 80 0 90 40\nline 20 30 20 2\ncolor 9\nline 20 -1 20 -30\n";
+    "redwork 2\nname loose\nstep 10\ncolor 7\nline 0 0 20 0 40 0 82 1\nline 82 1 90 40\nline 20 30 20 0\ncolor 9\nline 20 -1 20 -30\n";
 
 const SNAPPED_ENDS: &str =
-    "redwork 3\nstep 10\ncolor 1\nline 0 0 40 0\nline 40 0 60 20\nstart 40 0\nend 0 0\n";
+    "redwork 3\nstep 10\ncolor 1\nline 0 0 41 1\nline 41 1 60 20\nstart 41 1\nend 0 0\n";
 
+/// Ends and inner points that nearly meet lines, lines that nearly lie on each other, lines of two blocks, and what
+/// is refused.
 pub const FILES: &[(&str, &str)] = &[
     (
         "loose.rw",
@@ -28,36 +30,86 @@ pub const FILES: &[(&str, &str)] = &[
         "redwork 3\nstep 10\ncolor 1\nline 0 0 40 0\nend 40 0\ncolor 2\nline 0 1 40 1\nend 0 1\nstart 40 1\n",
     ),
     (
+        "tees.rw",
+        "redwork 2\nstep 25\ncolor 1\nline 0 0 100 0\nline 50 2 50 50\nline 50 -2 50 -50\n",
+    ),
+    (
+        "inner.rw",
+        "redwork 2\nstep 25\ncolor 1\nline 0 0 100 0\nline 20 30 50 0 80 30\n",
+    ),
+    (
+        "over.rw",
+        "redwork 2\nstep 25\ncolor 1\nline 0 0 100 0\nline 60 0 160 0\n",
+    ),
+    (
+        "own.rw",
+        "redwork 2\nstep 25\ncolor 1\nline 0 0 100 0 100 50 40 50 40 1\n",
+    ),
+    (
+        "five.rw",
+        "redwork 2\nstep 25\ncolor 1\nline 0 0 80 80\nline 3 0 83 80\nline 6 0 86 80\nline 9 0 89 80\nline 12 0 92 80\n",
+    ),
+    (
+        "pair.rw",
+        "redwork 2\nstep 25\ncolor 1\nline 0 0 40 0\nline 40 1 0 1\n",
+    ),
+    (
         "double.rw",
         "redwork 3\nstep 10\ncolor 1\nline 0 0 20 0\nline 23 1 40 20\nstart 0 0\nstart 40 20\n",
     ),
     (
-        "back.rw",
-        "redwork 3\nstep 10\ncolor 1\nline 0 0 20 0 22 0 20 0 40 0\nend 20 0\n",
+        "copied.rw",
+        "redwork 3\nstep 10\ncolor 1\nline 0 0 20 0 40 0\nline 0 0 20 0\nstart 20 0\n",
     ),
     (
         "short.rw",
-        "redwork 3\nstep 10\ncolor 1\nline 0 0 40 0\nstart 0 0\ncolor 2\nline 0 9 3 11\nstart 3 11\n",
+        "redwork 2\nstep 10\ncolor 1\nline 0 0 80 0\ncolor 2\nline 0 0 80 0\nline 40 2 40 -2\n",
     ),
 ];
 
 pub const RUNS: &[Run] = &[
-    done!("snap 2 loose.rw out.rw" => "moved 1 listed 1 pieces 4 to 2\n", SNAPPED),
-    done!("snap 2 snapped.rw out.rw" => "moved 0 listed 0 pieces 2 to 2\n", SNAPPED),
-    done!("snap 2 ends.rw out.rw" => "moved 1 listed 0 pieces 2 to 1\n", SNAPPED_ENDS),
-    done!("snap 2 snapped_ends.rw out.rw" => "moved 0 listed 0 pieces 1 to 1\n", SNAPPED_ENDS),
+    done!("snap 2 loose.rw out.rw" =>
+        "moved 2 listed 1 dropped 0 left 0 pieces 4 to 2\n", SNAPPED),
+    done!("snap 2 snapped.rw out.rw" =>
+        "moved 0 listed 0 dropped 0 left 0 pieces 2 to 2\n", SNAPPED),
+    done!("snap 2 ends.rw out.rw" =>
+        "moved 1 listed 0 dropped 0 left 0 pieces 2 to 1\n", SNAPPED_ENDS),
+    done!("snap 2 snapped_ends.rw out.rw" =>
+        "moved 0 listed 0 dropped 0 left 0 pieces 1 to 1\n", SNAPPED_ENDS),
     done!("snap 0 exact.rw out.rw" =>
-        "moved 0 listed 1 pieces 2 to 1\n",
+        "moved 0 listed 1 dropped 0 left 0 pieces 2 to 1\n",
         "redwork 3\nstep 10\ncolor 1\nline 0 0 20 10 40 20\nline 20 40 20 10\nstart 20 10\n"),
     done!("snap 0 ends.rw out.rw" =>
-        "moved 0 listed 0 pieces 2 to 2\n",
+        "moved 0 listed 0 dropped 0 left 0 pieces 2 to 2\n",
         "redwork 3\nstep 10\ncolor 1\nline 0 0 40 0\nline 41 1 60 20\nstart 41 1\nend 0 0\n"),
     done!("snap 1 blocks.rw out.rw" =>
-        "moved 0 listed 0 pieces 2 to 2\n",
+        "moved 0 listed 0 dropped 0 left 0 pieces 2 to 2\n",
         "redwork 3\nstep 10\ncolor 1\nline 0 0 40 0\nend 40 0\ncolor 2\nline 0 1 40 1\nstart 40 1\nend 0 1\n"),
+    done!("snap 2 tees.rw out.rw" =>
+        "moved 2 listed 1 dropped 0 left 0 pieces 3 to 1\n",
+        "redwork 2\nstep 25\ncolor 1\nline 0 0 50 0 100 0\nline 50 0 50 50\nline 50 0 50 -50\n"),
+    done!("snap 0 inner.rw out.rw" =>
+        "moved 0 listed 1 dropped 0 left 0 pieces 2 to 1\n",
+        "redwork 2\nstep 25\ncolor 1\nline 0 0 50 0 100 0\nline 20 30 50 0 80 30\n"),
+    done!("snap 0 over.rw out.rw" =>
+        "moved 0 listed 2 dropped 1 left 0 pieces 2 to 1\n",
+        "redwork 2\nstep 25\ncolor 1\nline 0 0 60 0 100 0\nline 100 0 160 0\n"),
+    done!("snap 2 own.rw out.rw" =>
+        "moved 1 listed 1 dropped 0 left 0 pieces 1 to 1\n",
+        "redwork 2\nstep 25\ncolor 1\nline 0 0 40 0 100 0 100 50 40 50 40 0\n"),
+    done!("snap 2 five.rw out.rw" =>
+        "moved 8 listed 17 dropped 11 left 2 pieces 5 to 1\n"),
+    done!("snap 2 pair.rw out.rw" =>
+        "moved 2 listed 0 dropped 1 left 0 pieces 2 to 1\n",
+        "redwork 2\nstep 25\ncolor 1\nline 0 1 40 1\n"),
+    done!("snap 2 pair.rw out.rw --keep" =>
+        "moved 2 listed 0 dropped 0 left 0 pieces 2 to 1\n",
+        "redwork 2\nstep 25\ncolor 1\nline 0 1 40 1\nline 40 1 0 1\n"),
     refused!("snap 3 double.rw out.rw" =>
         "stitch_drawing: double.rw: start or end repeated\n"),
-    refused!("snap 2 back.rw out.rw" => "stitch_drawing: back.rw: not a junction\n"),
-    refused!("snap 3 short.rw out.rw" =>
-        "stitch_drawing: short.rw: block 2 line 2: would vanish\n"),
+    refused!("snap 0 copied.rw out.rw" => "stitch_drawing: copied.rw: not a junction\n"),
+    refused!("snap 2 short.rw out.rw" =>
+        "stitch_drawing: short.rw: block 2 line 3: would vanish\n"),
+    misused!("snap 2 pair.rw out.rw keep" =>
+        "stitch_drawing: keep: not understood\n"),
 ];

@@ -1,5 +1,5 @@
 //! Runs of commands of `stitch_drawing` over files in memory, by tables.
-use super::{edit_runs, free_runs, look_runs, near_runs, snap_runs, space_runs};
+use super::{cross_runs, edit_runs, free_runs, look_runs, near_runs, snap_runs, space_runs};
 use crate::contents::file_content;
 use drawing_commands::run;
 use outside_io::{MemSink, MemStore};
@@ -20,7 +20,7 @@ pub type Run = (
 );
 
 pub const USAGE: &str =
-    "usage: stitch_drawing look DRAWING [GAP]\n       stitch_drawing snap GAP DRAWING OUT\n       stitch_drawing space DRAWING OUT [length=N] [leeway=N]\n       stitch_drawing free DRAWING OUT\n       stitch_drawing near DRAWING OUT\n       stitch_drawing edit DRAWING OUT EDIT...\n       stitch_drawing --help\n       stitch_drawing --version\n";
+    "usage: stitch_drawing look DRAWING [GAP]\n       stitch_drawing snap GAP DRAWING OUT [--keep]\n       stitch_drawing cross DRAWING OUT [--keep]\n       stitch_drawing space DRAWING OUT [length=N] [leeway=N]\n       stitch_drawing free DRAWING OUT\n       stitch_drawing near DRAWING OUT\n       stitch_drawing edit DRAWING OUT EDIT...\n       stitch_drawing --help\n       stitch_drawing --version\n";
 
 /// A run that is done, with its report and the drawing that it writes, if it is compared.
 #[macro_export]
@@ -121,6 +121,7 @@ fn each_run_leaves_what_its_table_says(rt: HostRuntime) -> Result<(), Fail> {
         (edit_runs::FILES, edit_runs::RUNS),
         (look_runs::FILES, look_runs::RUNS),
         (snap_runs::FILES, snap_runs::RUNS),
+        (cross_runs::FILES, cross_runs::RUNS),
         (space_runs::FILES, space_runs::RUNS),
         (free_runs::FILES, free_runs::RUNS),
         (near_runs::FILES, near_runs::RUNS),

@@ -1,6 +1,6 @@
 use Rattle.std.proofs.Common.{◌∙◌, None, ap}
 use Rattle.design_commands.specs.Commands.{stitch_design_after}
-use Rattle.companion_words.specs.UsageTexts.{usage_with}
+use Rattle.program_texts.specs.CompanionUsage.{usage_with}
 use Rattle.design_commands.specs.Usage.{design_program_name, design_usage_text}
 use Rattle.program_shell.proofs.CallerLemmas.{can_finish}
 use Rattle.design_commands.proofs.CommandLemmas.{design_ends}

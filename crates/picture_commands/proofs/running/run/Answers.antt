@@ -1,5 +1,5 @@
 use Rattle.std.proofs.Common.{◌∙◌, None, ap}
-use Rattle.companion_words.specs.UsageTexts.{usage_with}
+use Rattle.program_texts.specs.CompanionUsage.{usage_with}
 use Rattle.picture_commands.specs.Orders.{picture_program_after}
 use Rattle.picture_commands.specs.Usage.{picture_program_name, picture_usage}
 use Rattle.program_shell.proofs.CallerLemmas.{can_finish}
