@@ -1,12 +1,13 @@
 #!/usr/bin/env python3
-"""Checks that a design sews a drawing, and that its certificate proves no thread over the drawing shorter.
+"""Checks that a design sews a drawing, and that its certificate proves that no thread over it has fewer stitches.
 
-`python3 check.py DRAWING FILE CERT` prints `yes`, or on standard error the first reason why not. It was
-written from docs/FORMATS.md alone, and shares nothing with `stitch`, whose `check` has the same verdicts.
+`python3 check.py DRAWING FILE CERT` prints `yes`, or on standard error the first reason why not. It was written from
+docs/FORMATS.md alone, and shares nothing with `stitch`, whose `check` has the same verdicts.
 """
 import re
 import sys
 from collections import Counter, namedtuple
+from struct import unpack
 
 class Refused(Exception):
     """What is wrong and where, as it is printed after `stitch: `."""
@@ -16,8 +17,8 @@ def need(holds, fault):
     if not holds: raise Refused(fault)
 
 # ---- The drawing. A line is a list of points, and `at` is the number of a line of text.
-Block = namedtuple("Block", "at lines given")  # the line of its `color`, lines, and starts and ends
-Piece = namedtuple("Piece", "block lines junctions odd start end")
+Block = namedtuple("Block", "at lines given")  # the line of its `color`, its lines, and its starts and ends
+Piece = namedtuple("Piece", "block lines junctions given")  # its lines by number, and its start and end by word
 
 def number(at, word, least, most):
     """The number that a word is: digits, with a minus sign before them if it is negative."""
@@ -27,78 +28,62 @@ def number(at, word, least, most):
 
 def read_drawing(text):
     """The pieces of a drawing and its step."""
-    version, head, blocks, totals, lines = None, {}, [], Counter(), text.split(b"\n")
-    if not lines[-1]: lines.pop()
-    for at, line in enumerate(lines, 1):
-        kind, *words = [word for word in re.split(rb"[ \t]", line.removesuffix(b"\r")) if word] or [b"#"]
+    lines = re.findall(rb"[^\n]*\n|[^\n]+", text)
+    rows = [re.findall(rb"[^ \t\n]+", re.sub(rb"\r\n?\Z", b"", line)) or [b"#"] for line in lines]
+    rows = [(at, *row) for at, row in enumerate(rows, 1) if not row[0].startswith(b"#")]
+    end, head, blocks, totals = len(lines) + 1, {}, [], Counter()
+    need(rows and rows[0][1:] in [(b"redwork", version) for version in (b"1", b"2", b"3")],
+         f"line {rows[0][0] if rows else end}: not a redwork drawing")
+    for at, kind, *words in rows[1:]:
         unknown = f"line {at}: word not understood"
-        if kind.startswith(b"#"): continue
-        if version is None:
-            fits = kind == b"redwork" and words in ([b"1"], [b"2"], [b"3"])
-            need(fits, f"line {at}: not a redwork drawing")
-            version = int(words[0])
-        elif kind in (b"name", b"step"):
-            need(len(words) == 1 and kind not in head and not blocks, unknown)
-            need(kind == b"step" or re.fullmatch(rb"[!-~]{1,16}", words[0]), unknown)
+        if kind in (b"name", b"step"):
+            shape = rb"[!-~]{1,16}" if kind == b"name" else rb"[^ ]+"
+            need(re.fullmatch(shape, b" ".join(words)) and kind not in head and not blocks, unknown)
             head[kind] = number(at, words[0], 1, 2047) if kind == b"step" else words[0]
         elif kind == b"color":
             need(len(words) == 1, unknown)
             number(at, words[0], 0, 255)
-            refuse_empty(blocks)
+            for block in blocks[-1:]: need(block.lines, f"line {block.at}: block without a line")
             need(len(blocks) < 255, f"line {at}: more than 255 blocks")
             blocks.append(Block(at, [], []))
         else:
-            need(kind == b"line" or kind in (b"start", b"end") and version == 3, unknown)
+            need(kind == b"line" or kind in (b"start", b"end") and rows[0][2] == b"3", unknown)
             need(blocks, f"line {at}: no block")
             need(kind == b"line" or len(words) == 2, unknown)
             numbers = [number(at, word, -30000, 30000) for word in words]
             points = list(zip(numbers[0::2], numbers[1::2]))
-            if kind == b"line":
+            if kind != b"line": blocks[-1].given.append((at, kind, points[0]))
+            else:
                 need(len(numbers) >= 4 and len(numbers) % 2 == 0, f"line {at}: too few points")
                 need(all(a != b for a, b in zip(points, points[1:])), f"line {at}: point repeated")
                 totals.update(lines=1, points=len(points), steps=cost(points, head.get(b"step", 25)))
                 refuse_large(at, totals)
                 blocks[-1].lines.append(points)
-            else:
-                blocks[-1].given.append((at, kind, points[0]))
-    need(version, f"line {len(lines) + 1}: not a redwork drawing")
-    refuse_empty(blocks)
-    need(blocks, f"line {len(lines) + 1}: no block")
-    return make_pieces(len(lines) + 1, blocks, version), head.get(b"step", 25)
-
-def refuse_empty(blocks):
-    """Refuses a last block without a line, at its own `color`."""
     for block in blocks[-1:]: need(block.lines, f"line {block.at}: block without a line")
+    need(blocks, f"line {end}: no block")
+    return make_pieces(end, blocks, rows[0][2] != b"1"), head.get(b"step", 25)
 
 def refuse_large(at, totals):
     """Refuses more than a drawing can hold."""
     for what, most in (("lines", 1024), ("points", 65536), ("steps", 200000)):
         need(totals[what] <= most, f"line {at}: more than {most} {what}")
 
-def make_pieces(at, blocks, version):
-    """The pieces of the blocks, whose lines are first cut at shared points from version 2 on."""
-    parts = [sections(block.lines) if version > 1 else block.lines for block in blocks]
+def make_pieces(at, blocks, cut):
+    """The pieces of the blocks, whose lines are first cut at shared points if so wanted."""
+    parts = [sections(block.lines) if cut else block.lines for block in blocks]
     sizes = [len(points) for lines in parts for points in lines]
     refuse_large(at, Counter(lines=len(sizes), points=sum(sizes)))
     pieces, first = [], 1
     for block, lines in zip(blocks, parts):
-        groups = connected(list(enumerate(lines, first)))
-        first += len(lines)
-        given = [{} for _ in groups]
+        made = [Piece(block, dict(group), list(dict.fromkeys(ends_of(group))), {})
+                for group in connected(list(enumerate(lines, first)))]
         for at, kind, point in block.given:
-            here = [place for place, group in enumerate(groups) if point in ends_of(group)]
+            here = [piece for piece in made if point in piece.junctions]
             need(here, f"line {at}: not a junction")
-            need(kind not in given[here[0]], f"line {at}: start or end repeated")
-            given[here[0]][kind] = point
-        pieces += [make_piece(block, *pair) for pair in zip(groups, given)]
+            need(kind not in here[0].given, f"line {at}: start or end repeated")
+            here[0].given[kind] = point
+        pieces, first = pieces + made, first + len(lines)
     return pieces
-
-def make_piece(block, group, given):
-    """A piece. A start or an end alone is both. If they differ, each counts as odd if it is even."""
-    start, end = given.get(b"start", given.get(b"end")), given.get(b"end", given.get(b"start"))
-    degrees = Counter(ends_of(group))
-    odd = {point for point, degree in degrees.items() if degree % 2}
-    return Piece(block, dict(group), list(degrees), odd if start == end else odd ^ {start, end}, start, end)
 
 def sections(lines):
     """The lines of a block, cut at each point inside that the block lists several times."""
@@ -126,32 +111,29 @@ def cost(points, step):
 
 def needle_points(points, step):
     """The needle points along points: the steps of a segment are equal, rounded down to whole tenths."""
-    needles = points[:1]
-    for (a, b), (c, d) in zip(points, points[1:]):
-        n = cost([(a, b), (c, d)], step)
-        needles += [(a + (c - a) * k // n, b + (d - b) * k // n) for k in range(1, n + 1)]
-    return needles
+    counts = [cost(pair, step) for pair in zip(points, points[1:])]
+    return points[:1] + [(a + (c - a) * k // n, b + (d - b) * k // n)
+                         for (a, b), (c, d), n in zip(points, points[1:], counts) for k in range(1, n + 1)]
 
-# ---- The design. Each reader gives commands: the byte of the record, the kind, and the move.
-def read_acts(commands):
+# ---- The design. Each reader gives records: the byte where it begins, its commands, and its move.
+def read_acts(records):
     """The acts of commands: needles and floats with their points, stops, and trims of a thread not loose."""
-    acts, x, y, loose, carried = [], 0, 0, True, False
-    for count, (at, kind, dx, dy) in enumerate(commands):
-        x, y = x + dx, y + dy
+    acts, x, y, loose, before, count = [], 0, 0, True, None, 0
+    for at, kind, dx, dy in ((at, kind, dx, dy) for at, kinds, dx, dy in records for kind in kinds.split()):
+        if kind in ("stitch", "jump"): x, y = x + dx, y + dy
         need(max(abs(x), abs(y)) <= (30000 if kind == "stitch" else 32767), f"byte {at}: point out of range")
         need(count < 1000000, f"byte {at}: more than 1000000 commands")
-        if kind == "stitch": acts.append(("float" if carried and not loose else "needle", (x, y)))
+        if kind == "stitch": acts.append(("float" if before == "jump" and not loose else "needle", (x, y)))
         if kind == "stop" or kind == "trim" and not loose: acts.append((kind, None))
         loose = kind in ("trim", "stop") or loose and kind == "jump"
-        carried = kind == "jump"
+        before, count = kind, count + 1
     return acts
 
-# The bits of a DST record: its byte, the bits of plus and of minus, and their value. Its y points upwards.
-X_BITS = (0, 1, 2, 1), (1, 1, 2, 3), (0, 4, 8, 9), (1, 4, 8, 27), (2, 4, 8, 81)
-Y_BITS = (0, 128, 64, 1), (1, 128, 64, 3), (0, 32, 16, 9), (1, 32, 16, 27), (2, 32, 16, 81)
+# What the bits of the three bytes of a DST record add: bits 0 to 3 to x, and bits 7 to 4 to y, which points upwards.
+DST_BITS = (1, -1, 9, -9), (3, -3, 27, -27), (0, 0, 81, -81)
 
 def read_dst(data):
-    """The commands of Tajima DST: records of three bytes after a header of 512."""
+    """The records of Tajima DST: three bytes each, after a header of 512."""
     need(len(data) >= 512, f"byte {len(data)}: file too short")
     jumps = 0
     for at in range(512, len(data) - 2, 3):
@@ -159,61 +141,55 @@ def read_dst(data):
         if record[2] & 0xF3 == 0xF3: return
         flags = record[2] >> 6 if record[2] & 3 == 3 else 0
         need(flags != 1, f"byte {at}: sequin")
-        x, y = [sum(value * (bool(record[place] & plus) - bool(record[place] & minus))
-                    for place, plus, minus, value in bits) for bits in (X_BITS, Y_BITS)]
+        bits = [(byte, bit, value) for byte, values in zip(record, DST_BITS) for bit, value in enumerate(values)]
+        x = sum(value for byte, bit, value in bits if byte >> bit & 1)
+        y = sum(value for byte, bit, value in bits if byte << bit & 0x80)
         jumps = jumps + 1 if flags == 2 else 0
-        if jumps == 3: yield at, "trim", 0, 0
-        if flags == 3: yield at, "stop", 0, 0
-        if flags == 0: yield at, "stitch", x, -y
-        if flags == 2 or flags == 3 and (x, y) != (0, 0): yield at, "jump", x, -y
-
-def signed(value, bits):
-    """The signed number of so many bits."""
-    return value - (1 << bits) if value >> (bits - 1) else value
+        stop = "stop" if (x, y) == (0, 0) else "stop jump"
+        yield at, ("stitch", None, "trim jump" if jumps == 3 else "jump", stop)[flags], x, -y
 
 def read_exp(data):
-    """The commands of Melco EXP: units of two bytes, or of four if the first is 80."""
+    """The records of Melco EXP: two bytes each, or four if the first is 80."""
     at = 0
     while at < len(data) and at + (4 if data[at] == 0x80 else 2) <= len(data):
         code, move = (data[at + 1], at + 2) if data[at] == 0x80 else (2, at)
-        x, y = signed(data[move], 8), signed(data[move + 1], 8)
-        need(code in (1, 2, 4, 0x80), f"byte {at}: control code not known")
-        if code == 0x80: yield at, "trim", 0, 0
-        if code == 1: yield at, "stop", 0, 0
-        if code == 2: yield at, "stitch", x, -y
-        if code == 4 or code == 1 and (x, y) != (0, 0): yield at, "jump", x, -y
+        x, y = unpack("bb", data[move:move + 2])
+        stop = "stop" if (x, y) == (0, 0) else "stop jump"
+        kinds = {1: stop, 2: "stitch", 4: "jump", 0x80: "trim"}
+        need(code in kinds, f"byte {at}: control code not known")
+        yield at, kinds[code], x, -y
         at = move + 2
 
 def read_pec(data, signature=b"#PEC"):
-    """The commands of a PEC block. It is at offset 8 of a PEC file, and a PES file gives the offset."""
+    """The records of a PEC block. It is at offset 8 of a PEC file, and a PES file gives the offset."""
     need(data[:4] == signature, "byte 0: signature not known")
     at = 528 + (8 if signature == b"#PEC" else int.from_bytes(data[8:12], "little"))
     need(len(data) >= at, f"byte {len(data)}: file too short")  # as is each PES file of fewer than 12 bytes
     while at < len(data) and data[at] != 0xFF:
         x, x_marks, middle = coordinate(data, at)
         y, y_marks, end = coordinate(data, middle)
-        stop, marks = data[at:at + 2] == b"\xFE\xB0", x_marks | y_marks
-        if stop: x, y, end, marks = 0, 0, at + 3, 0
+        kinds = ("stitch", "jump", "trim jump", "jump")[(x_marks | y_marks) >> 4 & 3]
+        if data[at:at + 2] == b"\xFE\xB0": kinds, end = "stop", at + 3
         if end > len(data): return
-        if marks & 0x30 == 0x20: yield at, "trim", 0, 0
-        yield at, "stop" if stop else "jump" if marks & 0x30 else "stitch", x, y
+        yield at, kinds, x, y
         at = end
 
 def coordinate(data, at):
     """A coordinate of a PEC record, the byte with its marks, and the offset after it."""
     first, second = (data[at:at + 2] + b"\0\0")[:2]
-    if first < 0x80: return signed(first, 7), 0, at + 1
-    return signed((first & 0x0F) << 8 | second, 12), first, at + 2
+    bits, value = (7, first) if first < 0x80 else (12, (first & 0x0F) << 8 | second)
+    signed = value - (value >> bits - 1 << bits)
+    return signed, first if bits == 12 else 0, at + (2 if bits == 12 else 1)
 
 LIST_LINES = [rb"stitch-list 1", rb"label \[([ -~]{0,15}[!-~])?\]", rb"block (0|[1-9][0-9]*)",
               rb"block (0|[1-9][0-9]*)|(needle|float)( (0|-?[1-9][0-9]*)){2}|trim|end"]
 
 def read_list(data):
-    """The commands of a stitch list. `room` is that of its acts, and `here` is the last needle."""
+    """The records of a stitch list. `room` is that of its acts, and `here` is the last needle."""
     at, kind, loose, room, blocks, here = 0, None, True, 0, 0, (0, 0)
     for place, line in enumerate(data.split(b"\n")[:-1]):
-        unknown, last = f"byte {at}: control code not known", kind
-        fits = last != b"end" and len(line) <= 32 and re.fullmatch(LIST_LINES[min(place, 3)], line)
+        unknown = f"byte {at}: control code not known"
+        fits = kind != b"end" and len(line) <= 32 and re.fullmatch(LIST_LINES[min(place, 3)], line)
         need(fits, unknown if place > 0 else "byte 0: signature not known")
         kind, *words = line.split(b" ")
         numbers = [int(word) for word in words] if place > 1 else []
@@ -241,15 +217,14 @@ def read_list(data):
 # ---- The certificate. Each piece has a retraced cost, a walk, and cuts: a weight and junctions.
 AFTER = {None: [b"redwork-certificate"], b"redwork-certificate": [b"piece", b"end"], b"piece": [b"walk"],
          b"walk": [b"cut", b"piece", b"end"], b"cut": [b"cut", b"piece", b"end"], b"end": []}
-CERTIFICATE_LINE = (rb"redwork-certificate 1|piece (0|[1-9][0-9]{0,9})|walk( -?[1-9][0-9]{0,9})+|"
-                    rb"cut( [1-9][0-9]{0,9})+|end")
+CERT_LINE = rb"redwork-certificate 1|piece (0|[1-9][0-9]{0,9})|walk( -?[1-9][0-9]{0,9})+|cut( [1-9][0-9]{0,9})+|end"
 
 def read_certificate(text):
     """The pieces of a certificate."""
     pieces, last, lines = [], None, text.split(b"\n")
     for at, line in enumerate(lines[:-1], 1):
         kind, *words = line.split(b" ")
-        need(kind in AFTER[last] and re.fullmatch(CERTIFICATE_LINE, line), f"line {at}: not a certificate")
+        need(kind in AFTER[last] and re.fullmatch(CERT_LINE, line), f"line {at}: not a certificate")
         numbers, last = [int(word) for word in words], kind
         rising = kind != b"cut" or all(a < b for a, b in zip(numbers[1:], numbers[2:]))
         need(rising and all(abs(each) <= 4294967295 for each in numbers), f"line {at}: not a certificate")
@@ -262,55 +237,57 @@ def read_certificate(text):
 # ---- The verdict.
 def judge(pieces, step, acts, certificate):
     """Refuses with the first reason why the acts and the certificate aren't right for the drawing."""
-    sizes = len(certificate), len(pieces)
-    need(sizes[0] == sizes[1], f"no: certificate has {sizes[0]} pieces, drawing has {sizes[1]}")
-    wanted, before = [], None
+    counts, wanted = (len(certificate), len(pieces)), []
+    need(counts[0] == counts[1], f"no: certificate has {counts[0]} pieces, drawing has {counts[1]}")
     for place, (piece, (retraced, walk, cuts)) in enumerate(zip(pieces, certificate), 1):
-        costs = {line: cost(points, step) for line, points in piece.lines.items()}
-        path = walk_points(f"no: piece {place}", piece, walk)
+        name, costs = f"no: piece {place}", {line: cost(points, step) for line, points in piece.lines.items()}
+        path = walk_points(name, piece, walk)
         found = sum(costs[abs(line)] for line in walk) - sum(costs.values())
-        need(retraced == found, f"no: piece {place}: retraced {retraced} said, {found} found")
-        judge_cuts(f"no: piece {place}", piece, costs, cuts)
+        need(retraced == found, f"{name}: retraced {retraced} said, {found} found")
+        judge_cuts(name, piece, costs, cuts)
         halves = sum(weight for weight, _ in cuts)
-        need(halves == 2 * retraced, f"no: piece {place}: cuts give {halves} halves, needed {2 * retraced}")
-        wanted += [("stop", None)] if before not in (None, piece.block) else []
+        need(halves == 2 * retraced, f"{name}: cuts give {halves} halves, needed {2 * retraced}")
+        if wanted and piece.block != pieces[place - 2].block: wanted.append(("stop", None))
         wanted += [("needle", point) for point in needle_points(path, step)] + [("trim", None)]
-        before = piece.block
     for place in range(max(len(wanted), len(acts))):
         need(wanted[place:place + 1] == acts[place:place + 1], f"no: act {place + 1} differs")
 
+def ends_given(piece):
+    """The start and the end of a piece, or None twice. One alone is both."""
+    start, end = piece.given.get(b"start"), piece.given.get(b"end")
+    return start or end, end or start
+
 def walk_points(name, piece, walk):
     """The points along a walk that fits its piece."""
-    path = []
+    path, (start, end) = [], ends_given(piece)
     for place, line in enumerate(walk, 1):
         need(abs(line) in piece.lines, f"{name}: pass {place} is not a line of the piece")
         points = piece.lines[abs(line)][::1 if line > 0 else -1]
-        follows = not path or path[-1] == points[0]
-        need(follows, f"{name}: pass {place} does not start where the one before ends")
+        need(path[-1:] in ([], points[:1]), f"{name}: pass {place} does not start where the one before ends")
         path += points[1:] if path else points
-    need(piece.start in (None, path[0]), f"{name}: walk does not begin at its start")
-    need(piece.end in (None, path[-1]), f"{name}: walk does not end at its end")
-    need(piece.start or path[0] == path[-1], f"{name}: walk is not closed")
+    need(start in (None, path[0]), f"{name}: walk does not begin at its start")
+    need(end in (None, path[-1]), f"{name}: walk does not end at its end")
+    need(start or path[0] == path[-1], f"{name}: walk is not closed")
     for line in piece.lines: need(line in walk or -line in walk, f"{name}: line {line} is not sewn")
     return path
 
 def judge_cuts(name, piece, costs, cuts):
     """Refuses a cut that isn't odd, and a line that carries more than two halves for each of its steps."""
-    load = dict.fromkeys(costs, 0)
+    start, end = ends_given(piece)
+    degrees, load = Counter(ends_of(piece.lines.items())), dict.fromkeys(costs, 0)
+    odd = {point for point, degree in degrees.items() if degree % 2} ^ {start} ^ {end}
     for place, (weight, members) in enumerate(cuts, 1):
-        for junction in members:
-            need(junction <= len(piece.junctions), f"{name}: cut {place} names junction {junction}")
+        for each in members: need(each <= len(piece.junctions), f"{name}: cut {place} names junction {each}")
         held = {piece.junctions[junction - 1] for junction in members}
-        need(len(held & piece.odd) % 2, f"{name}: cut {place} holds {len(held & piece.odd)} odd junctions")
+        need(len(held & odd) % 2, f"{name}: cut {place} holds {len(held & odd)} odd junctions")
         for line, points in piece.lines.items():
             if (points[0] in held) != (points[-1] in held): load[line] += weight
     for line, halves in load.items():
-        most = 2 * costs[line]
-        need(halves <= most, f"{name}: line {line} carries {halves} halves, allowed {most}")
+        need(halves <= 2 * costs[line], f"{name}: line {line} carries {halves} halves, allowed {2 * costs[line]}")
 
 # ---- The program.
-READERS = {"dst": read_dst, "exp": read_exp, "pec": read_pec, "pes": lambda data: read_pec(data, b"#PES"),
-           "lst": read_list}
+READERS = {"dst": read_dst, "exp": read_exp, "pec": read_pec, "lst": read_list}
+READERS["pes"] = lambda data: read_pec(data, b"#PES")
 
 def read(name, reader):
     """What a reader makes of the bytes of a file."""

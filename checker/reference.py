@@ -80,8 +80,10 @@ def read_design(name, files):
     data, ending = contents(name, files), ending_of(name)
     commands, x, y = [], 0, 0
     try:
-        for at, kind, dx, dy in check.READERS[ending](data):
-            x, y = x + dx, y + dy
+        records = check.READERS[ending](data)
+        for at, kind, dx, dy in ((at, kind, dx, dy) for at, kinds, dx, dy in records for kind in kinds.split()):
+            if kind in ("stitch", "jump"):
+                x, y = x + dx, y + dy
             most = {"stitch": 30000, "jump": 32767}.get(kind, 1 << 40)
             need(max(abs(x), abs(y)) <= most, f"byte {at}: point out of range")
             need(len(commands) < 1000000, f"byte {at}: more than 1000000 commands")
@@ -185,11 +187,14 @@ def records(acts, ending, name):
 def dst_record(x, y, flags):
     """A record of a move in balanced ternary; the file's y points upwards."""
     record = bytearray([0, 0, flags | 3])
-    for rest, bits in ((x, check.X_BITS), (-y, check.Y_BITS)):
-        for place, plus, minus, value in sorted(bits, key=lambda bit: -bit[3]):
+    bits = {value: (place, bit) for place, values in enumerate(check.DST_BITS) for bit, value in enumerate(values)}
+    for rest, mask in ((x, lambda bit: 1 << bit), (-y, lambda bit: 0x80 >> bit)):
+        for value in (81, 27, 9, 3, 1):
             if abs(rest) > value // 2:
-                record[place] |= plus if rest > 0 else minus
-                rest -= value if rest > 0 else -value
+                value = value if rest > 0 else -value
+                place, bit = bits[value]
+                record[place] |= mask(bit)
+                rest -= value
     return bytes(record)
 
 
