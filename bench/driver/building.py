@@ -15,6 +15,11 @@ def build_stitch():
     subprocess.run([REPOSITORY / "build", "stitch"], check=True)
 
 
+def build_stitch_drawing():
+    say("building stitch_drawing; from nothing this takes some minutes")
+    subprocess.run([REPOSITORY / "build", "stitch_drawing"], check=True)
+
+
 def build_plain(name):
     """Builds one of the programs of this folder with rustc alone."""
     say(f"building {name}")

@@ -7,6 +7,7 @@ from pathlib import Path
 
 import building
 import checking
+import choices
 import counting
 import document
 import machine
@@ -17,13 +18,14 @@ import tables
 from building import say
 from cases import FULL, SMALL, all_cases
 from distances import KINDS
-from places import BIN, STITCH
+from places import BIN, STITCH, STITCH_DRAWING
 
 
 def words():
     parser = argparse.ArgumentParser(prog="bench/run")
     parser.add_argument("--sizes", choices=["full", "small"], default="full")
     parser.add_argument("--stitch", type=Path, help="a program built elsewhere")
+    parser.add_argument("--drawing", type=Path, help="a stitch_drawing built elsewhere")
     parser.add_argument("--only", default="", metavar="WORD", help="cases whose name has this word")
     parser.add_argument("--check", action="store_true", help="counts instructions, and compares them with the tables")
     return parser.parse_args()
@@ -66,6 +68,18 @@ def measure_matchings(asked, sizes):
             document.put(text, "matchings")
 
 
+def measure_choices(asked):
+    """The table of the commands that choose points, ends and orders."""
+    if not counting.can_count():
+        say(f"{counting.MISSING}: `space`, `free` and `near` are left out")
+        return
+    if not asked.drawing:
+        building.build_stitch_drawing()
+    text = choices.report((asked.drawing or STITCH_DRAWING).resolve())
+    print(text)
+    document.put(text, "choices")
+
+
 def measure_files(asked, sizes, cases):
     """The tables of the file commands, and whether some case differs."""
     stitch = program(asked.stitch)
@@ -97,6 +111,8 @@ def main():
     building.build_plain("meter")
     if asked.check:
         return checking.check(program(asked.stitch))
+    if sizes is FULL and asked.only in ("", "choices"):
+        measure_choices(asked)
     cases = [case for case in all_cases(sizes) if asked.only in case.name]
     if cases and measure_files(asked, sizes, cases):
         return 1
