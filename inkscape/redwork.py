@@ -16,7 +16,7 @@ except ImportError as why:
 
 import svg_by_inkex as library
 from redwork_layers import layer, show_places, show_route
-from redwork_programs import Failed, Work
+from redwork_programs import STEPS, Failed, Work
 from svg_drawing import drawing
 from svg_strokes import TooMuch
 from svg_style import Refused
@@ -43,7 +43,8 @@ class Redwork:
             pars.add_argument(f"--{name}", default=value)
         for name, value in (("step", 25), ("snap", 2), ("gap", 2)):
             pars.add_argument(f"--{name}", type=int, default=value)
-        for name, value in (("space", True), ("centre", False), ("skip", False)):
+        for name, value in (("cross", False), ("space", True), ("free", False), ("near", False), ("tie", False), ("centre", False),
+                            ("skip", False)):
             pars.add_argument(f"--{name}", type=inkex.Boolean, default=value)
 
     def drawn(self):
@@ -61,12 +62,12 @@ class Redwork:
         return made
 
     def worked(self, act):
-        """What an act on the drawing returns. It gets the drawing, and the work on it, which is snapped and spaced."""
+        """What an act on the drawing returns. It gets the drawing, and the work on it, on which all that is chosen was done."""
         made = self.drawn()
         with tempfile.TemporaryDirectory() as folder:
             try:
                 work = Work(folder, made.text, made.labels)
-                work.prepare(self.options.snap, self.options.space)
+                work.prepare(self.options.snap, [step for step in STEPS if getattr(self.options, step)])
                 return act(made, work)
             except Failed as why:
                 raise inkex.AbortExtension(str(why)) from None
@@ -76,8 +77,12 @@ class Save(Redwork, inkex.OutputExtension):
     """Saves the document as a design, and keeps the drawing and the certificate that `stitch check` judges it by."""
 
     def save(self, stream):
-        design = self.worked(lambda made, work: self.kept(work, *work.route(self.options.form)))
+        design = self.worked(lambda made, work: self.tied(work, self.kept(work, *work.route(self.options.form))))
         stream.write(design)
+
+    def tied(self, work, design):
+        """The design for the machine: tied where it is chosen. The kept proof is about the one without ties."""
+        return work.tie(self.options.form) if self.options.tie else design
 
     def kept(self, work, design, certificate, _report):
         """The design, once its proof is kept. Inkscape doesn't say where the design goes, so the dialog names the folder."""

@@ -7,6 +7,15 @@ import subprocess
 # The file that `make` writes beside this one: the folders of the programs, one a line.
 FOLDERS = os.path.join(os.path.dirname(os.path.abspath(__file__)), "folders.txt")
 
+# The lines of a report of look that are places.
+MEETING = re.compile(r"block \d+ line (?P<first>\d+)(?: and line (?P<other>\d+))? at (?P<x>-?\d+) (?P<y>-?\d+): "
+                     r"(?P<what>loose end|near point|unlisted meeting|crossing|overlap|repeated segment)")
+SHORT = re.compile(r"block \d+ line (?P<first>\d+)(?P<other>): (?P<what>\d+ stitch(?:es)? shorter than half a step), "
+                   r"the first at (?P<x>-?\d+) (?P<y>-?\d+)")
+
+# The commands of stitch_drawing that a dialog offers after a snap, in their order.
+STEPS = ["cross", "space", "free", "near"]
+
 
 class Failed(Exception):
     """What a program refused, or that it isn't there."""
@@ -72,22 +81,35 @@ class Work:
             label = object_of(str(why), self.read(self.name).decode("ascii"), self.labels)
             raise Failed(f"{why} (object {label})" if label else str(why)) from None
 
-    def prepare(self, gap, is_spaced):
-        """Snaps the drawing by a distance in tenths of a millimetre, not by 0, and spaces it where requested."""
-        if gap:
-            self.run("stitch_drawing", "snap", gap, self.name, "snapped.rw")
-            self.name = "snapped.rw"
-        if is_spaced:
-            self.run("stitch_drawing", "space", self.name, "spaced.rw")
-            self.name = "spaced.rw"
+    def prepare(self, gap, steps):
+        """Snaps the drawing by a distance in tenths of a millimetre, not by 0, and then takes the steps."""
+        for words in [["snap", gap]] * (gap > 0) + [[step] for step in steps]:
+            made = f"{words[0]}.rw"
+            self.run("stitch_drawing", *words, self.name, made)
+            self.name = made
+        if "near" in steps:
+            self.labels = []  # the lines are in another order
 
     def route(self, form):
         """Routes the drawing to a format, and returns the bytes of the design and of the certificate, and the report."""
         report = self.run("stitch", "route", self.name, f"design.{form}", "design.cert")
         return self.read(f"design.{form}"), self.read("design.cert"), report
 
+    def tie(self, form):
+        """Ties the routed design, and returns its bytes."""
+        self.run("stitch_design", "edit", f"design.{form}", f"tied.{form}", "tie")
+        return self.read(f"tied.{form}")
+
     def places(self, gap):
         """The places that look names: each its point in tenths of a millimetre, and what it is with its object."""
         report = self.run("stitch_drawing", "look", self.name, gap)
-        found = re.findall(r"^(block \d+ line \d+) at (-?\d+) (-?\d+): (.*)$", report, re.M)
-        return [((int(x), int(y)), f"{kind}: {object_of(line, '', self.labels)}".rstrip(": ")) for line, x, y, kind in found]
+        return [place for place in map(self.place, report.splitlines()) if place]
+
+    def place(self, line):
+        """The point and the text of a place, with the labels of its objects, or None for a line that is no place."""
+        found = MEETING.match(line) or SHORT.match(line)
+        if not found:
+            return None
+        first, x, y, what = found["first"], found["x"], found["y"], found["what"]
+        labels = [object_of(f"block 1 line {number}", "", self.labels) for number in (first, found["other"]) if number]
+        return (int(x), int(y)), f"{what}: {', '.join(filter(None, labels))}".rstrip(": ")

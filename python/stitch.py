@@ -16,7 +16,7 @@ import os
 import struct
 from typing import Callable, Mapping, NamedTuple, Optional, Sequence
 
-__all__ = ["Failed", "Refused", "Reply", "Routed", "check", "compare", "convert", "double", "edit", "edit_design",
+__all__ = ["Failed", "Refused", "Reply", "Routed", "check", "compare", "convert", "cross", "double", "edit", "edit_design",
            "edit_drawing", "free", "hoop", "look", "migrate", "near", "picture", "proof_picture", "review", "route", "run", "sample", "show", "snap", "space",
            "threads", "trace"]
 
@@ -199,9 +199,18 @@ def look(drawing: bytes, gap: Optional[int] = None) -> str:
     return _done("stitch_drawing", ["look", "in.rw", *([] if gap is None else [str(gap)])], {"in.rw": drawing}).out
 
 
-def snap(gap: int, drawing: bytes) -> bytes:
-    """Returns a drawing with points that are within the gap (tenths of a millimetre) as one."""
-    return _done("stitch_drawing", ["snap", str(gap), "in.rw", "out.rw"], {"in.rw": drawing}).files["out.rw"]
+def snap(gap: int, drawing: bytes, keep: bool = False) -> bytes:
+    """Returns a drawing whose lines meet where they are within the gap (tenths of a millimetre), without segments that are sewn
+    already unless `keep`."""
+    words = ["snap", str(gap), "in.rw", "out.rw", *(["--keep"] if keep else [])]
+    return _done("stitch_drawing", words, {"in.rw": drawing}).files["out.rw"]
+
+
+def cross(drawing: bytes, keep: bool = False) -> bytes:
+    """Returns a drawing with points where its lines cross or lie on each other, without segments that are sewn already unless
+    `keep`."""
+    words = ["cross", "in.rw", "out.rw", *(["--keep"] if keep else [])]
+    return _done("stitch_drawing", words, {"in.rw": drawing}).files["out.rw"]
 
 
 def space(drawing: bytes, length: Optional[int] = None, leeway: Optional[int] = None) -> bytes:

@@ -8,15 +8,33 @@ import { text } from "./texts.js";
 import { textEditor } from "./text_editor.js";
 import { zoomFrame } from "./zoom.js";
 
+// The lines of a report of `look` that are places: where two lines meet or nearly meet, and where a line has short stitches.
+const MEETING = /^block (?<block>\d+) line (?<line>\d+)(?: and line (?<met>\d+))? at (?<x>-?\d+) (?<y>-?\d+): (?<what>[a-z ]+?)(?:, (?<apart>\d+) from line (?<beside>\d+)| from [-\d ]+ to [-\d ]+)?$/;
+const SHORT = /^block (?<block>\d+) line (?<line>\d+): (?<count>\d+) stitch(?:es)? shorter than half a step, the first at (?<x>-?\d+) (?<y>-?\d+), shortest (?<shortest>\d+), longest (?<longest>\d+)$/;
+
+// The place that a line of the report names, or null.
+function placeOf(line) {
+    const found = (MEETING.exec(line) ?? SHORT.exec(line))?.groups;
+    return found ? { ...found, what: found.what ?? "short stitches", other: found.met ?? found.beside, point: [+found.x, +found.y] } : null;
+}
+
 // The pieces and the places of a report of `look`.
 function reportOf(out) {
-    const lines = out.trimEnd().split("\n"), places = [];
-    for (const line of lines) {
-        const found = /^block (\d+) line (\d+) at (-?\d+) (-?\d+): (.*)$/.exec(line);
-        if (found) places.push({ block: +found[1], line: +found[2], point: [+found[3], +found[4]], what: found[5] });
-    }
-    return { pieces: lines.filter(line => /^block \d+ piece/.test(line)).map(valuesOf), places, sums: valuesOf(lines.at(-1)) };
+    const lines = out.trimEnd().split("\n");
+    return { pieces: lines.filter(line => /^block \d+ piece/.test(line)).map(valuesOf),
+        places: lines.map(placeOf).filter(place => place), sums: valuesOf(lines.at(-1)) };
 }
+
+// What a place is, in words.
+function placeText(place) {
+    const { block, line, count, other } = place, [x, y] = place.point.map(mm);
+    const what = text(`look.${place.what}`, { count, other, apart: mm(+place.apart), shortest: mm(+place.shortest),
+        longest: mm(+place.longest) });
+    return text("look.place", { block, line, x, y, what });
+}
+
+// The kinds of places that a command mends.
+const MENDED = { snap: ["loose end", "near point", "unlisted meeting"], cross: ["crossing", "overlap"], space: ["short stitches"] };
 
 export function drawingView({ open }) {
     const zoom = zoomFrame("drawing.frame"), message = make("p", { class: "refused", role: "alert", hidden: true });
@@ -32,7 +50,7 @@ export function drawingView({ open }) {
         for (const item of places.querySelectorAll("button")) item.setAttribute("aria-pressed", item.dataset.place === String(k));
         centreIn(places.firstChild, places.querySelector(`[data-place="${k}"]`));
         centreIn(zoom.frame, zoom.frame.querySelector(`[data-place="${k}"]`));
-        editor.showDrawnLine(place.line);
+        editor.showDrawnLine(+place.line);
     };
 
     // Reads the drawing by the programs, and shows what they say.
@@ -75,13 +93,11 @@ export function drawingView({ open }) {
                 report.pieces.map(one => [one.piece, one.block, one.lines, one.odd, one.stitches, mm(one.shortest),
                     mm(one.longest), one.short, mm(one.thread), mm(one.travel)]),
                 { label: text("look.table") }));
-        const isLoose = report.places.some(({ what }) => ["loose end", "unlisted meeting"].includes(what));
-        const isClose = report.places.some(({ what }) => what === "short point spacing");
-        fill(advice, isLoose ? text("look.trySnap") : isClose ? text("look.trySpace") : "");
+        const mends = Object.keys(MENDED).find(command => report.places.some(({ what }) => MENDED[command].includes(what)));
+        fill(advice, mends ? text(`look.try.${mends}`) : "");
         fill(places, report.places.length ? make("ol", { class: "places" }, report.places.map((place, k) => make("li", {},
             make("button", { type: "button", "data-place": k, "aria-pressed": "false", click: () => choose(k) },
-                text("look.place", { block: place.block, line: place.line, x: mm(place.point[0]), y: mm(place.point[1]),
-                    what: text(`look.${place.what}`) })))))
+                placeText(place)))))
             : make("p", {}, text("look.noPlace")));
     };
 
@@ -130,6 +146,7 @@ export function drawingView({ open }) {
     const tools = make("div", { class: "tools" }, group("drawing.history", undo, redo),
         group("drawing.snap", field("drawing.gap", gap, "mm"), button("drawing.snap", () => act(`snap ${tenthsOf(gap)}`,
             ["snap", tenthsOf(gap)]), { title: text("drawing.snap.title") })),
+        group("drawing.cross", button("drawing.cross", () => act("cross", ["cross"]), { title: text("drawing.cross.title") })),
         group("drawing.space", field("drawing.length", length, "mm"), field("drawing.leeway", leeway, "mm"),
             button("drawing.space", () => act(["space", ...spacing()].join(" "), ["space"], spacing()),
                 { title: text("drawing.space.title") })),

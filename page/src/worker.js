@@ -1,9 +1,9 @@
 // Runs the programs of the module, each run in an instance of its own, beside the page.
 import { packRequest, unpackReply } from "./packing.js";
 
-// The bytes that are prepared for a reply, and how many more for each byte of the request. A longer reply is made again, in as
-// many as it needs.
-const ROOM = 1 << 24, ROOM_EACH = 48;
+// The bytes that are prepared for a reply: a number of them, more for each byte of the request, and a number that they don't exceed.
+// A longer reply is made again, in as many bytes as it needs.
+const ROOM = 1 << 25, ROOM_EACH = 48, ROOM_MOST = 1 << 27;
 let compiled;
 
 // Places bytes in the memory of an instance, and returns where.
@@ -30,7 +30,8 @@ onmessage = ({ data: { module, id, program, words, files } }) => {
     }
     const started = performance.now();
     try {
-        const request = packRequest(words, files), first = replyOf(program, request, ROOM + ROOM_EACH * request.length);
+        const request = packRequest(words, files), room = Math.min(ROOM + ROOM_EACH * request.length, ROOM_MOST);
+        const first = replyOf(program, request, room);
         const reply = first.length ? replyOf(program, request, first.length) : first;
         postMessage({ id, milliseconds: performance.now() - started, ...reply });
     } catch (why) {
