@@ -83,7 +83,7 @@ def texts(group):
 for path in sorted(glob.glob(os.path.join(HOME, "examples", "*.svg"))):
     same_points(os.path.basename(path))
 
-# five documents saved by one command are byte by byte those of from_svg.py, snap, space and route; and they pass the check
+# five documents saved by one command are byte by byte those of from_svg.py and the programs; bared, they pass the check
 for name in NAMES:
     shutil.copy(os.path.join(HOME, "examples", name + ".svg"), FOLDER)
 run("inkscape", "--export-type=pes", *(name + ".svg" for name in NAMES))
@@ -91,14 +91,17 @@ run("inkscape", "--export-type=dst,exp,pec", "snail.svg")
 for name in NAMES:
     run(sys.executable, os.path.join(HOME, "examples", "from_svg.py"), name + ".svg", "drawn.rw")
     stitch("stitch_drawing", "snap", "2", "drawn.rw", "snapped.rw")
-    stitch("stitch_drawing", "space", "snapped.rw", "spaced.rw")
+    for step, source in (("cross", "snapped.rw"), ("space", "cross.rw"), ("free", "space.rw"), ("near", "free.rw")):
+        stitch("stitch_drawing", step, source, step + ".rw")
     for form in ("pes", "dst", "exp", "pec") if name == "snail" else ("pes",):
-        stitch("stitch", "route", "spaced.rw", "wanted." + form, "wanted.cert")
+        stitch("stitch", "route", "near.rw", "routed." + form, "wanted.cert")
+        stitch("stitch_design", "edit", "routed." + form, "wanted." + form, "tie")
         expect(f"{name}.{form}", read("wanted." + form), read(f"{name}.{form}"))
-        for ending, wanted in (("rw", "spaced.rw"), ("cert", "wanted.cert")):
+        for ending, wanted in (("rw", "near.rw"), ("cert", "wanted.cert")):
             expect(f"{name}.{form}.{ending}", read(wanted), read(f"{name}.{form}.{ending}"))
         saved = f"{name}.{form}"
-        expect("check " + saved, "yes\n", stitch("stitch", "check", saved + ".rw", saved, saved + ".cert"))
+        stitch("stitch_design", "edit", saved, "bare." + form, "bare")
+        expect("check " + saved, "yes\n", stitch("stitch", "check", saved + ".rw", "bare." + form, saved + ".cert"))
 
 # refusals
 TEXT = HEAD + '<text id="t" x="10" y="20">a</text></svg>'
@@ -113,8 +116,8 @@ for wanted, command, document, options, environment in (
          HEAD + '<path d="M1500 0h.5"/></svg>', (), {}),
         ("The program stitch_drawing isn't there. Type make install in the folder of Stitch, or set STITCH_BIN to the folder "
          "that has it, and start Inkscape again.\n", "save", LINE, (), {"STITCH_BIN": "", "PATH": ""}),
-        ("stitch_drawing: drawn.rw: block 1 line 1: would vanish (object p)\n", "save", LINE.replace("h9", "h2"),
-         ("--snap=100",), {}),
+        ("stitch_drawing: drawn.rw: block 1 line 2: would vanish (object q)\n", "save",
+         LINE.replace("</svg>", '<path id="q" d="M5 .9v.2"/></svg>'), ("--snap=2",), {}),
         ("cannot write /none/document.pes.rw: No such file or directory: name another folder in the dialog\n", "save", LINE,
          ("--form=pes", "--folder=/none"), {})):
     status, out, err = extension(command, document, *options, **environment)

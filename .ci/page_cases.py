@@ -1,4 +1,4 @@
-"""Tests the page in Chromium: page_cases.py FOLDER PICTURES [WORD..], FOLDER having stitch.html. Runs the tests whose names have
+"""Tests the page in Chromium, and its runs in Firefox where it is there: page_cases.py FOLDER PICTURES [WORD..], FOLDER having stitch.html. Runs the tests whose names have
 one of the words, or all."""
 import io
 import os
@@ -10,6 +10,7 @@ import zipfile
 
 sys.dont_write_bytecode = True
 from page_browser import By, Page, WebDriverException, native  # noqa: E402
+from page_firefox import FirefoxPage, firefox  # noqa: E402
 
 TOP = os.path.dirname(os.path.dirname(os.path.abspath(__file__)))
 FOLDER, PICTURES, WORDS = sys.argv[1], sys.argv[2], sys.argv[3:]
@@ -102,14 +103,16 @@ def grid(size):
 
 
 def test_limits(page):
-    """A drawing at the limit of lines, one at the limit of steps, and a design of 1,000,000 commands, below 1 GB."""
+    """A drawing at the limit of lines, one at the limit of steps, and designs of 1,000,000 commands, below 1 GB."""
     steps = ("redwork 1\nstep 1\ncolor 1\n" + "".join(f"line -30000 {y} 30000 {y}\n" for y in (0, 20, 40))).encode()
     turns = [(1, 0), (0, 1), (-1, 0), (0, -1)]
     long = b"".join(struct.pack("bb", *turns[k % 4]) for k in range(1000000))
+    listed = native("stitch", ["convert", "a.exp", "a.lst"], {"a.exp": long})[3]["a.lst"]
     for program, words, files in (("stitch", ["route", "a.rw", "a.pes", "a.cert"], {"a.rw": grid(21)}),
                                   ("stitch_drawing", ["look", "a.rw"], {"a.rw": grid(21)}),
                                   ("stitch", ["route", "a.rw", "a.dst", "a.cert"], {"a.rw": steps}),
                                   ("stitch", ["convert", "a.exp", "b.pes"], {"a.exp": long}),
+                                  ("stitch", ["convert", "a.lst", "b.lst"], {"a.lst": listed}),
                                   ("stitch_picture", ["a.exp", "b.svg"], {"a.exp": long})):
         same(page, program, words, files)
         reply = page.run(program, words, files)[4]
@@ -295,6 +298,20 @@ def shoot(page, name, width):
     page.resize(width, min(max(size[1], 700), 3000))
     page.picture(os.path.join(PICTURES, f"{name}-{width}.png"))
     page.resize(width, 1000)
+
+
+def test_in_firefox(_):
+    """The examples, the samples, the refusals and the limits once more, in Firefox."""
+    if firefox() is None:
+        print("page: there is no firefox-esr: not tested in Firefox")
+        return
+    page = FirefoxPage(os.path.join(FOLDER, "stitch.html"))
+    try:
+        print(f"page: in Firefox {page.version}")
+        for test in (test_examples, test_samples, test_refusals, test_limits):
+            test(page)
+    finally:
+        page.close()
 
 
 def main():

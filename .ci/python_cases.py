@@ -73,6 +73,8 @@ def test_functions():
     same("proof", stitch.proof_picture(DRAWING, routed.certificate)[:5], "<svg ")
     same("look", stitch.look(DRAWING, 3).splitlines()[-1], "pieces 1 places 0 thread 20 travel 0")
     same("snap", stitch.snap(2, DRAWING), DRAWING.replace(b"redwork 3", b"redwork 2"))
+    same("cross", stitch.cross(DRAWING), DRAWING.replace(b"redwork 3", b"redwork 2"))
+    same("crossed", stitch.cross(DRAWING, keep=True), DRAWING.replace(b"redwork 3", b"redwork 2"))
     same("space", stitch.space(DRAWING), DRAWING.replace(b"redwork 3", b"redwork 2"))
     same("spaced", stitch.space(DRAWING, length=10, leeway=1), DRAWING.replace(b"redwork 3", b"redwork 2"))
     same("free", sorted(line.split(b" ", 1)[1] for line in stitch.free(DRAWING).splitlines()[-2:]), [b"0 0", b"20 0"])
@@ -107,7 +109,7 @@ def test_programs():
                 as_program("stitch", ["route", "a.rw", f"b.{ending}", "c.cert"], {"a.rw": drawing})
             as_program("stitch_picture", ["a.rw", "b.svg"], {"a.rw": drawing})
             as_program("stitch_drawing", ["look", "a.rw"], {"a.rw": drawing})
-            for command in ("space", "free", "near"):
+            for command in ("cross", "space", "free", "near"):
                 as_program("stitch_drawing", [command, "a.rw", "b.rw"], {"a.rw": drawing})
     as_program("stitch_design", ["look", "a.lst"], {"a.lst": LIST})
     as_program("stitch_design", ["compare", "a.lst", "b.lst"], {"a.lst": LIST})

@@ -1,6 +1,7 @@
 """Edges of real files and streams: permissions, several names, links, pipes, full disks, closed streams, names that are no
 text, too little memory. Each is a function of a fresh folder. What must happen is said by the README and the manual pages.
 """
+import math
 import os
 import resource
 import subprocess
@@ -78,6 +79,44 @@ def write_inputs(here):
 
 def is_picture(content):
     return content.startswith(b"<") and content.rstrip().endswith(b"</svg>")
+
+
+def circle(radius, apart):
+    """A closed line around the origin, of points that are about so far apart."""
+    count = round(2 * math.pi * radius / apart)
+    turns = [2 * math.pi * k / count for k in range(count)]
+    points = [(round(radius * math.cos(turn)), round(radius * math.sin(turn))) for turn in turns]
+    kept = [p for p, before in zip(points, points[-1:] + points) if p != before]
+    return kept + kept[:1]
+
+
+def square_from_the_middle(side, count):
+    """A square of so many points a side, which begins in the middle of one."""
+    along = [round(side * k / count) for k in range(count)]
+    points = [(d, 0) for d in along] + [(side, d) for d in along]
+    points += [(side - d, side) for d in along] + [(0, side - d) for d in along]
+    points = points[count // 2:] + points[:count // 2]
+    return points + points[:1]
+
+
+def spaced(here, points, words=""):
+    """What `space` reports of one closed line: its stitches, its shortest and its longest one, and its widest spacing before."""
+    here.write("even.rw", rw(2, "step 25", "color 1", "line " + " ".join(f"{x} {y}" for x, y in points)))
+    out = here.run(Step(f"stitch_drawing space even.rw out.rw {words}".strip(), 0, None, "", {}))
+    said = out.decode().split()
+    after = {word: int(said[said.index(word) + 3]) for word in ("stitches", "shortest", "longest")}
+    return after["stitches"], after["shortest"], after["longest"], int(said[said.index("longest") + 1])
+
+
+@edge("stitches of spaced squares and circles are even")
+def even_stitches(here):
+    stitches, shortest, _, _ = spaced(here, square_from_the_middle(103, 20))
+    here.tells("a square of 103 has 22 penetrations, and no stitch below 14", stitches == 21 and shortest >= 14)
+    for radius in (40, 100):
+        _, shortest, longest, spacing = spaced(here, circle(radius, 5), "length=25")
+        here.tells(f"the stitches of a circle of {2 * radius} differ by one spacing at most", longest - shortest <= spacing)
+    for apart in (2, 3):
+        here.tells("a berry of radius 1 mm has seven corners or more", spaced(here, circle(10, apart), "leeway=1")[0] >= 7)
 
 
 @edge("a file that is overwritten keeps its permissions")

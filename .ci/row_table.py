@@ -23,7 +23,8 @@ USAGE = {
         "usage: stitch_picture FILE OUT.svg [WIDTH HEIGHT]", "       stitch_picture DRAWING OUT.svg",
         "       stitch_picture DRAWING CERT OUT.svg", "       stitch_picture --help", "       stitch_picture --version"),
     "stitch_drawing": text(
-        "usage: stitch_drawing look DRAWING [GAP]", "       stitch_drawing snap GAP DRAWING OUT",
+        "usage: stitch_drawing look DRAWING [GAP]", "       stitch_drawing snap GAP DRAWING OUT [--keep]",
+        "       stitch_drawing cross DRAWING OUT [--keep]",
         "       stitch_drawing space DRAWING OUT [length=N] [leeway=N]", "       stitch_drawing free DRAWING OUT",
         "       stitch_drawing near DRAWING OUT", "       stitch_drawing edit DRAWING OUT EDIT...",
         "       stitch_drawing --help", "       stitch_drawing --version"),
@@ -87,7 +88,7 @@ GIVEN = {"given.rw": LINE, "given.lst": LINE_LIST, "given.cert": LINE_CERT}
 OF_DRAWING = [
     "stitch route a.rw b.dst b.cert", "stitch double a.rw b.dst b.cert", "stitch check a.rw given.lst given.cert",
     "stitch migrate a.rw b.rw", "stitch_drawing look a.rw", "stitch_drawing look a.rw 5", "stitch_drawing snap 2 a.rw b.rw",
-    "stitch_drawing space a.rw b.rw", "stitch_drawing edit a.rw b.rw turn=1", "stitch_picture a.rw b.svg",
+    "stitch_drawing cross a.rw b.rw",     "stitch_drawing space a.rw b.rw", "stitch_drawing edit a.rw b.rw turn=1", "stitch_picture a.rw b.svg",
     "stitch_picture a.rw given.cert b.svg"]
 
 # Each command that reads a certificate, as `a.cert`.
@@ -158,6 +159,9 @@ row("usage of stitch_drawing, with files there", HERE, misused("stitch_drawing")
     ("stitch_drawing snap a.rw b.rw", "a.rw: from 0 to 100"), ("stitch_drawing snap 101 a.rw b.rw", "101: from 0 to 100"),
     ("stitch_drawing snap -1 a.rw b.rw", "-1: from 0 to 100"), ("stitch_drawing snap 2 a.rw a.rw", "a.rw: is the input"),
     ("stitch_drawing snap 2 a.rw b.rw b.lst", "b.lst: not understood"), ("stitch_drawing space a.rw", "a.rw: needs a file"),
+    ("stitch_drawing cross", "cross: needs a file"), ("stitch_drawing cross a.rw a.rw", "a.rw: is the input"),
+    ("stitch_drawing cross a.rw b.rw keep", "keep: not understood"),
+    ("stitch_drawing cross a.rw b.rw --keep x", "x: not understood"),
     ("stitch_drawing space a.rw a.rw", "a.rw: is the input"), ("stitch_drawing space a.rw b.rw b.lst", "b.lst: not understood"),
     ("stitch_drawing space a.rw b.rw length=0", "length=0: from 1 to 2047"),
     ("stitch_drawing edit a.rw b.rw", "b.rw: needs an edit"), ("stitch_drawing edit a.rw a.rw turn=1", "a.rw: is the input"),
@@ -652,9 +656,12 @@ row("five records of DST with two floats", {"a.dst": HEAD + dst(*FLOATS)[512:]},
     done("stitch edit a.dst b.dst turn=0", "needles 3 trims 0 stops 0\n", {"b.dst": dst(*FLOATS)}),
     done("stitch convert a.dst b.lst", "needles 3 trims 0 stops 0\n", {"b.lst": lst(*FLOATS)}))
 
-row("a DST file that was cut off", {"a.dst": HEAD + b"\0"},
-    done("stitch show a.dst", text("format dst", "label []", "commands 0", "needles 0", "trims 0", "stops 0", "extent none",
-                                   "ended no", "block 1 thread 1 needles 0")))
+# Of 513, 514 and 515 bytes the last alone have a record: a stitch by (30, 0).
+row("a DST file that was cut off", {"a.dst": HEAD + b"\0", "b.dst": HEAD + b"\0\x05", "c.dst": HEAD + b"\0\x05\x03"},
+    *[done(f"stitch show {name}.dst", text("format dst", "label []", "commands 0", "needles 0", "trims 0", "stops 0",
+                                           "extent none", "ended no", "block 1 thread 1 needles 0")) for name in "ab"],
+    done("stitch show c.dst", text("format dst", "label []", "commands 1", "needles 1", "trims 0", "stops 0",
+                                   "extent 30 0 30 0", "ended no", "block 1 thread 1 needles 1")))
 
 row("an EXP file that was cut off", {"a.exp": bytes.fromhex("0000 0a05 8003")},
     done("stitch show a.exp", text("format exp", "label []", "commands 2", "needles 2", "trims 0", "stops 0",
@@ -816,6 +823,7 @@ def row_of_shape(title, step, lines, cost, retraced, needles, junctions, odd, wa
     lengths = [length for line in sewn for length in lengths_of(line)]
     shortest, longest, short = min(lengths) // 100, max(lengths) // 100, sum(length < 1000 for length in lengths)
     total = sum(lengths) // 100
+    across, down = [max(numbers) - min(numbers) for numbers in zip(*[line[k:k + 2] for line in lines for k in range(0, len(line), 2)])]
     drawing = rw(1, f"step {step}", "color 1", *["line " + " ".join(map(str, line)) for line in lines])
     row(title, {"a.rw": drawing, "a.lst": walk_list(sewn, walk),
                 "a.cert": cert(f"piece {retraced}", "walk " + " ".join(map(str, walk)), *cuts)},
@@ -826,6 +834,7 @@ def row_of_shape(title, step, lines, cost, retraced, needles, junctions, odd, wa
         done("stitch_picture a.rw a.cert a.svg", "", {"a.svg": A_PICTURE}),
         done("stitch_picture a.rw b.cert b.svg", "", {"b.svg": A_PICTURE}),
         done(f"stitch_drawing look a.rw {gap}", text(
+            f"size {across} {down} pieces 1",
             f"block 1 piece 1 lines {len(lines)} junctions {junctions} odd {odd} stitches {cost} shortest {shortest} "
             f"longest {longest} short {short} thread {total} travel 0",
             *places, f"pieces 1 places {len(places)} thread {total} travel 0")))
@@ -845,7 +854,7 @@ row_of_shape("a star of 40 lines", 25, [(0, 0, 25, y) for y in range(-20, 20)], 
 K4 = [(0, 0, 30, 0), (0, 0, 30, 30), (0, 0, 0, 30), (30, 0, 30, 30), (30, 0, 0, 30), (30, 30, 0, 30)]
 K4_WALK = [1, -1, 2, 6, -6, -4, 5, -3]
 row_of_shape("each of four junctions with each", 30, K4, 6, 2, 9, 4, 4, K4_WALK,
-             [f"cut 1 {junction}" for junction in range(1, 5)], ["block 1 line 5 at 30 0: crossing"])
+             [f"cut 1 {junction}" for junction in range(1, 5)], ["block 1 line 2 and line 5 at 15 15: crossing"])
 # An overload: the cuts weigh as much as they must, and line 1 leads from the first to the second.
 row_of_no("two cuts that one line crosses", "piece 1: line 1 carries 3 halves, allowed 2",
           ROWS[-1].before["a.rw"], cert("piece 2", "walk " + " ".join(map(str, K4_WALK)), "cut 2 1", "cut 1 2", "cut 1 3"),
@@ -926,18 +935,21 @@ row("edits of a drawing that exceed a limit", {
 # ---- snap and space ----
 
 row("snaps that are refused", {
-    "a.rw": rw(1, "step 10", "color 1", "line 0 0 10 0", "color 2", "line 0 20 10 20", "line 5 5 7 6 5 7"),
-    "b.rw": rw(1, *TWICE_601), "c.rw": rw(1, *POINTS_65536),
-    # 200,000 steps, of which the last line has 19,998; its end moves to the first line, a step farther
-    "d.rw": rw(1, "step 1", "color 1", "line 20001 5 20001 7", *[f"line 0 {y} 30000 {y}" for y in range(100, 700, 100)],
-               "line 2 5 20000 5"),
-    # the line lists 10 0 twice, and once after the point between is moved there
-    "e.rw": rw(3, "step 10", "color 1", "line 0 0 10 0 11 0 10 0 20 0", "start 10 0"),
+    # all points of the last line are within the gap of one place of the line before it
+    "a.rw": rw(2, "step 10", "color 1", "line 0 0 80 0", "color 2", "line 0 0 80 0", "line 40 2 40 -2"),
+    # 42 lines list their points on each of 26 others, and all are cut there
+    "b.rw": rw(2, "step 25", "color 1", *[f"line 0 {25 * k} 1000 {25 * k}" for k in range(26)],
+               *["line " + " ".join(f"{23 * i + 7} {25 * k}" for k in range(26)) for i in range(42)]),
+    "c.rw": rw(1, *POINTS_65536),
+    # 200,000 steps, of which the first line has 19,998; its end moves to the last line, a step farther
+    "d.rw": rw(1, "step 1", "color 1", "line 2 5 20000 5", *[f"line 0 {y} 30000 {y}" for y in range(100, 700, 100)],
+               "line 20001 5 20001 7"),
+    # the block lists 20 0 twice, and once after the copy is left out
+    "e.rw": rw(3, "step 10", "color 1", "line 0 0 20 0 40 0", "line 0 0 20 0", "start 20 0"),
     "f.rw": rw(3, "step 10", "color 1", "line 0 0 10 0", "line 11 0 20 0", "start 0 0", "start 20 0"),
     "g.rw": rw(3, "step 10", "color 1", "line 0 0 10 0", "line 11 0 20 0", "end 0 0", "end 20 0")},
     refused("stitch_drawing snap 2 a.rw h.rw", "a.rw: block 2 line 3: would vanish"),
-    refused("stitch_drawing snap 10 a.rw h.rw", "a.rw: block 1 line 1: would vanish"),
-    refused("stitch_drawing snap 0 b.rw h.rw", "b.rw: more than 1024 lines"),
+    refused("stitch_drawing snap 0 b.rw h.rw", "b.rw: more than 1024 lines after cutting: split the drawing"),
     refused("stitch_drawing snap 0 c.rw h.rw", "c.rw: more than 65536 points"),
     refused("stitch_drawing snap 1 d.rw h.rw", "d.rw: more than 200000 steps"),
     refused("stitch_drawing snap 1 e.rw h.rw", "e.rw: not a junction"),
@@ -951,13 +963,41 @@ row("spaced drawings that are refused", {"b.rw": rw(1, *TWICE_601), "c.rw": rw(1
 NEAR = ["step 20", "color 1", "line 0 0 80 0 80 80 0 80 0 0", "line 40 1 40 40"]
 row("a snap and a look", {"a.rw": rw(3, *NEAR)},
     done("stitch_drawing look a.rw", text(
+        "size 80 80 pieces 2",
         "block 1 piece 1 lines 1 junctions 1 odd 0 stitches 16 shortest 20 longest 20 short 0 thread 320 travel 0",
         "block 1 piece 2 lines 1 junctions 2 odd 2 stitches 2 shortest 19 longest 20 short 0 thread 39 travel 40",
-        "block 1 line 2 at 40 1: loose end", "pieces 2 places 1 thread 359 travel 40")),
-    done("stitch_drawing snap 2 a.rw b.rw", "moved 0 listed 1 pieces 2 to 1\n", {"b.rw": rw(
-        2, "step 20", "color 1", "line 0 0 40 1 80 0 80 80 0 80 0 0", "line 40 1 40 40")}),
-    done("stitch_drawing snap 2 b.rw c.rw", "moved 0 listed 0 pieces 1 to 1\n", {"c.rw": rw(
-        2, "step 20", "color 1", "line 0 0 40 1 80 0 80 80 0 80 0 0", "line 40 1 40 40")}))
+        "block 1 line 2 at 40 1: loose end, 1 from line 1", "pieces 2 places 1 thread 359 travel 40")),
+    done("stitch_drawing snap 2 a.rw b.rw", "moved 1 listed 1 dropped 0 left 0 pieces 2 to 1\n", {"b.rw": rw(
+        2, "step 20", "color 1", "line 0 0 40 0 80 0 80 80 0 80 0 0", "line 40 0 40 40")}),
+    done("stitch_drawing snap 2 b.rw c.rw", "moved 0 listed 0 dropped 0 left 0 pieces 1 to 1\n", {"c.rw": rw(
+        2, "step 20", "color 1", "line 0 0 40 0 80 0 80 80 0 80 0 0", "line 40 0 40 40")}))
+
+# Two lines cross, and both list the point; a second run changes nothing.
+row("crossed lines", {
+    "a.rw": rw(2, "step 25", "color 1", "line 0 0 100 50", "line 30 90 40 0"),
+    # an end on a segment, an overlap, and lines of two blocks
+    "c.rw": rw(2, "step 25", "color 1", "line 0 0 40 0", "line 30 0 60 0", "line 50 30 50 0", "color 2", "line 10 -10 10 10"),
+    # a line that is drawn again, the other way round, is left out, and its other part stays
+    "d.rw": rw(2, "step 25", "color 1", "line 0 0 40 0", "line 40 0 0 0 0 30")},
+    done("stitch_drawing cross a.rw b.rw", "crossings 1 listed 2 dropped 0 left 0 pieces 2 to 1\n", {"b.rw": rw(
+        2, "step 25", "color 1", "line 0 0 38 19 100 50", "line 30 90 38 19 40 0")}),
+    done("stitch_drawing cross b.rw e.rw", "crossings 0 listed 0 dropped 0 left 0 pieces 1 to 1\n", {"e.rw": rw(
+        2, "step 25", "color 1", "line 0 0 38 19 100 50", "line 30 90 38 19 40 0")}),
+    done("stitch_drawing cross c.rw f.rw", "crossings 0 listed 3 dropped 1 left 0 pieces 4 to 2\n", {"f.rw": rw(
+        2, "step 25", "color 1", "line 0 0 30 0 40 0", "line 40 0 50 0 60 0", "line 50 30 50 0", "color 2", "line 10 -10 10 10")}),
+    done("stitch_drawing cross c.rw g.rw --keep", "crossings 0 listed 3 dropped 0 left 0 pieces 4 to 2\n", {"g.rw": rw(
+        2, "step 25", "color 1", "line 0 0 30 0 40 0", "line 30 0 40 0 50 0 60 0", "line 50 30 50 0", "color 2",
+        "line 10 -10 10 10")}),
+    done("stitch_drawing cross d.rw h.rw", "crossings 0 listed 0 dropped 1 left 0 pieces 1 to 1\n", {"h.rw": rw(
+        2, "step 25", "color 1", "line 0 0 40 0", "line 0 0 0 30")}))
+
+# The lines of a net of 40 by 40 are cut into more than 1,024.
+row("crossed lines that are refused", {
+    "a.rw": rw(2, "step 25", "color 1", *[f"line -5 {30 * i} 1200 {30 * i}" for i in range(40)],
+               *[f"line {30 * i} -5 {30 * i} 1200" for i in range(40)]),
+    "b.rw": rw(3, "step 25", "color 1", "line 0 0 100 50", "line 30 90 40 0", "start 0 0", "start 30 90")},
+    refused("stitch_drawing cross a.rw c.rw", "a.rw: more than 1024 lines after cutting: split the drawing"),
+    refused("stitch_drawing cross b.rw c.rw", "b.rw: start or end repeated"))
 
 row("a spaced line", {"a.rw": rw(3, "step 25", "color 1", "line 0 0 6 0 12 1 18 1 24 1 30 2 36 3 42 4 48 5")},
     done("stitch_drawing space a.rw b.rw",
@@ -976,6 +1016,7 @@ row("free ends, and less travel", {
     done("stitch_drawing near b.rw e.rw", "travel 350 to 170 pieces 3\n",
          {"e.rw": rw(3, "step 10", "color 1", "line 200 0 210 0", "line 50 0 60 0", "line 0 0 30 0", "start 200 0",
                      "start 60 0", "start 30 0")}),
+    refused("stitch_drawing free c.rw e.rw", "c.rw: redwork 1 can't be kept: migrate it first"),
     refused("stitch_drawing near c.rw e.rw", "c.rw: redwork 1 can't be kept: migrate it first"))
 
 
@@ -1034,6 +1075,7 @@ row("outputs in a folder that isn't there", {"a.rw": LINE, "a.lst": LINE_LIST, "
     failed("stitch_picture a.rw none/b.svg", "cannot write none/b.svg"),
     failed("stitch_picture a.rw a.cert none/b.svg", "cannot write none/b.svg"),
     failed("stitch_drawing snap 2 a.rw none/b.rw", "cannot write none/b.rw"),
+    failed("stitch_drawing cross a.rw none/b.rw", "cannot write none/b.rw"),
     failed("stitch_drawing space a.rw none/b.rw", "cannot write none/b.rw"),
     failed("stitch_drawing edit a.rw none/b.rw turn=1", "cannot write none/b.rw"),
     failed("stitch_design edit a.lst none/b.exp tie", "cannot write none/b.exp"))

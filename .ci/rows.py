@@ -146,8 +146,8 @@ class Rows:
 
 
 # The crates whose sources have the texts of refusals.
-SCANNED = ("program_texts", "program_shell", "program_inputs", "route_texts", "stitch_cli", "companion_words",
-           "picture_commands", "drawing_commands", "edited_designs", "design_commands")
+SCANNED = ("program_texts", "program_shell", "program_inputs", "route_texts", "stitch_cli",
+           "picture_commands", "drawing_commands", "look_reports", "edited_designs", "design_commands")
 
 # A file that has a table alone: the names of threads.
 TABLES = ("design_commands/thread_names.rt",)
@@ -169,13 +169,19 @@ EXCEPTIONS = {
     # reports of `check` and `hoop`
     "stitch_cli/checking.rt": ["yes"],
     "stitch_cli/hooping.rt": ["fits upright", "fits turned"],
-    # reports of `look`, `snap`, `space`, `free` and `near`
-    "drawing_commands/look_texts.rt": [
+    # reports of `look`, `snap`, `cross`, `space`, `free` and `near`
+    "look_reports/look_texts.rt": [
         "pieces {pieces} places {places}", " thread {thread} travel {travel}",
         " stitches {stitches} shortest {shortest} longest {longest} short {short}", "block {block} piece {number}",
-        " lines {lines} junctions {junctions} odd {odd}", "block {block} line {line} at ", "{x} {y}: {what}",
-        "loose end", "unlisted meeting", "crossing", "repeated segment", "short point spacing"],
-    "drawing_commands/snap_texts.rt": ["moved {moved} listed {listed} pieces {before} to {after}"],
+        " lines {lines} junctions {junctions} odd {odd}", "size {across} {down} pieces {pieces}"],
+    "look_reports/place_texts.rt": [
+        "block {block} line {line}", " and line {number}", " at {x} {y}: ", "{what}, {distance} from line {other}",
+        "loose end", "near point", "unlisted meeting", "crossing", "repeated segment", "overlap from {x} {y} to {u} {v}",
+        "more than 65536 places: the first are named", ": {stitches} {noun}", "stitch", "stitches",
+        " shorter than half a step, the first at {x} {y}", ", shortest {shortest}, longest {longest}"],
+    "drawing_commands/meet_texts.rt": [
+        "moved {moved}", "crossings {crossings}", " listed {listed} dropped {dropped} left {left} ",
+        "pieces {before} to {after}"],
     "drawing_commands/space_texts.rt": [
         "points {points} to {less} stitches {stitches} to {fewer} ",
         "shortest {short} to {shorter} longest {long} to {longer} "],
@@ -183,7 +189,7 @@ EXCEPTIONS = {
         " penetrations {closed} to {cost}", " odd {odd} left", "penetrations {before} to {after} pieces {pieces}"],
     "drawing_commands/near_files.rt": ["travel {before} to {after} pieces {pieces}"],
     # the line of the version
-    "companion_words/usage_text.rt": [" 0.4.0"],
+    "program_texts/companion_usage.rt": [" 0.4.0"],
     # reports of `look` and `threads` of stitch_design, and the names of threads
     "design_commands/look_texts.rt": [
         "size {across} {down}", "origin 0 0", "origin {x} {y}", "block {number} thread {thread} ",
@@ -192,7 +198,7 @@ EXCEPTIONS = {
     # words of the arguments
     "drawing_commands/drawing_edit_words.rt": ["centre", "step", "order", "start", "end"],
     "picture_commands/words.rt": [".svg", "--help", "--version"],
-    "drawing_commands/requests.rt": ["look", "snap", "space", "free", "near", "edit", "--help", "--version"],
+    "drawing_commands/requests.rt": ["look", "snap", "cross", "--keep", "space", "free", "near", "edit", "--help", "--version"],
     "drawing_commands/space_words.rt": ["length", "leeway"],
     "design_commands/requests.rt": ["look", "pass", "edit", "compare", "threads", "--threads", "--help", "--version"],
     "design_commands/limit_words.rt": ["short", "long", "float", "tie", "hole"],
