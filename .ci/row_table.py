@@ -892,11 +892,36 @@ CUT_CROSS = ["step 10", "color 1", "line 0 0 10 0", "line 10 0 20 0", "line 10 -
 row("a cross in versions 1 and 2", {"a.rw": rw(1, *CROSS)},
     done("stitch migrate a.rw b.rw", "lines 4 pieces 1 cost 4\n", {"b.rw": rw(2, *CUT_CROSS)}),
     done("stitch migrate b.rw c.rw", "lines 4 pieces 1 cost 4\n", {"c.rw": rw(2, *CUT_CROSS)}),
-    done("stitch_drawing edit a.rw d.rw turn=0", "lines 4 pieces 1 cost 4\n", {"d.rw": rw(2, *CUT_CROSS)}),
-    done("stitch_drawing edit a.rw d.rw shift=1,2 start=1,2 step=5", "lines 4 pieces 1 cost 8\n", {"d.rw": rw(
+    *[refused(f"stitch_drawing {command}", "a.rw: redwork 1 can't be kept: migrate it first") for command in (
+        "snap 2 a.rw e.rw", "cross a.rw e.rw", "space a.rw e.rw", "free a.rw e.rw", "near a.rw e.rw", "edit a.rw e.rw turn=0")],
+    done("stitch_drawing edit b.rw d.rw turn=0", "lines 4 pieces 1 cost 4\n", {"d.rw": rw(2, *CUT_CROSS)}),
+    done("stitch_drawing edit b.rw d.rw shift=1,2 start=1,2 step=5", "lines 4 pieces 1 cost 8\n", {"d.rw": rw(
         3, "step 5", "color 1", "line 1 2 11 2", "line 11 2 21 2", "line 11 -8 11 2", "line 11 2 11 12", "start 1 2")}),
-    done("stitch_drawing edit a.rw d.rw centre mirror=y", "lines 4 pieces 1 cost 4\n", {"d.rw": rw(
+    done("stitch_drawing edit b.rw d.rw centre mirror=y", "lines 4 pieces 1 cost 4\n", {"d.rw": rw(
         2, "step 10", "color 1", "line -10 0 0 0", "line 0 0 10 0", "line 0 10 0 0", "line 0 0 0 -10")}))
+
+# In version 1 the T that both lines list is two pieces, and no command makes one of them. Lines that list no point twice but
+# at their ends stay as they are.
+row("a T and an L in version 1", {
+    "a.rw": rw(1, "step 20", "color 1", "line 0 0 8 0 16 0", "line 8 0 8 5"),
+    "b.rw": rw(1, "step 20", "color 1", "line 0 0 8 0", "line 8 0 8 5"),
+    "c.rw": rw(1, "step 20", "color 1", "line 0 0 16 0", "line 8 -5 8 5")},
+    done("stitch_drawing look a.rw 0", text(
+        "size 16 5 pieces 2", "block 1 piece 1 lines 1 junctions 2 odd 2 stitches 2 shortest 8 longest 8 short 2 thread 16 travel 0",
+        "block 1 piece 2 lines 1 junctions 2 odd 2 stitches 1 shortest 5 longest 5 short 1 thread 5 travel 8",
+        "block 1 line 1: 2 stitches shorter than half a step, the first at 0 0, shortest 8, longest 8",
+        "block 1 line 2: 1 stitch shorter than half a step, the first at 8 0, shortest 5, longest 5",
+        "pieces 2 places 2 thread 21 travel 8")),
+    *[refused(f"stitch_drawing {command}", "a.rw: redwork 1 can't be kept: migrate it first") for command in (
+        "snap 0 a.rw e.rw", "cross a.rw e.rw --keep", "space a.rw e.rw leeway=1", "edit a.rw e.rw end=16,0", "edit a.rw e.rw step=1")],
+    done("stitch_drawing snap 2 b.rw d.rw", "moved 0 listed 0 dropped 0 left 0 pieces 1 to 1\n", {"d.rw": rw(
+        2, "step 20", "color 1", "line 0 0 8 0", "line 8 0 8 5")}),
+    done("stitch_drawing cross c.rw f.rw", "crossings 1 listed 2 dropped 0 left 0 pieces 2 to 1\n", {"f.rw": rw(
+        2, "step 20", "color 1", "line 0 0 8 0 16 0", "line 8 -5 8 0 8 5")}),
+    done("stitch_drawing space c.rw g.rw", "points 4 to 4 stitches 2 to 2 shortest 10 to 10 longest 16 to 16 pieces 2\n", {"g.rw": rw(
+        2, "step 20", "color 1", "line 0 0 16 0", "line 8 -5 8 5")}),
+    done("stitch_drawing edit b.rw h.rw shift=1,0", "lines 2 pieces 1 cost 2\n", {"h.rw": rw(
+        2, "step 20", "color 1", "line 1 0 9 0", "line 9 0 9 5")}))
 
 row("what a drawing may have between its words", {
     "a.rw": "\n".join([
@@ -922,14 +947,15 @@ row("edits of a drawing that are refused", {"a.rw": THREE_PIECES}, *[
 
 # 21,000 steps of 10 are 210,000 steps of 1.
 row("edits of a drawing that exceed a limit", {
-    "a.rw": rw(1, "step 10", "color 1", *["line 0 0 30000 0"] * 7), "b.rw": rw(1, *TWICE_601), "c.rw": rw(1, *POINTS_65536),
+    "a.rw": rw(1, "step 10", "color 1", *["line 0 0 30000 0"] * 7), "b.rw": rw(1, *TWICE_601),
+    "c.rw": rw(2, "step 1", "color 1", line_of(snake(65536, 2))),
     "d.rw": rw(2, "color 1", *[f"line 0 {y} 10 {y}" for y in range(1023)], "line 0 1023 5 1023 10 1023")},
     refused("stitch_drawing edit a.rw e.rw step=1", "a.rw: edit 1: more than 200000 steps"),
     refused("stitch_drawing edit a.rw e.rw turn=1 step=2 step=1", "a.rw: edit 3: more than 200000 steps"),
-    refused("stitch_drawing edit b.rw e.rw turn=0", "b.rw: edit 1: more than 1024 lines"),
-    refused("stitch_drawing edit b.rw e.rw start=0,0", "b.rw: edit 1: more than 1024 lines"),
+    refused("stitch_drawing edit b.rw e.rw turn=0", "b.rw: redwork 1 can't be kept: migrate it first"),
+    refused("stitch_drawing edit d.rw e.rw start=5,1023", "d.rw: edit 1: more than 1024 lines"),
     refused("stitch_drawing edit d.rw e.rw turn=0 start=5,1023", "d.rw: edit 2: more than 1024 lines"),
-    refused("stitch_drawing edit c.rw e.rw turn=0", "c.rw: edit 1: more than 65536 points"))
+    refused("stitch_drawing edit c.rw e.rw start=2,0", "c.rw: edit 1: more than 65536 points"))
 
 
 # ---- snap and space ----
@@ -940,7 +966,8 @@ row("snaps that are refused", {
     # 42 lines list their points on each of 26 others, and all are cut there
     "b.rw": rw(2, "step 25", "color 1", *[f"line 0 {25 * k} 1000 {25 * k}" for k in range(26)],
                *["line " + " ".join(f"{23 * i + 7} {25 * k}" for k in range(26)) for i in range(42)]),
-    "c.rw": rw(1, *POINTS_65536),
+    # the first line lists the end of the other, between its first two points
+    "c.rw": rw(2, "step 1", "color 1", line_of(snake(65534, 2)), "line 1 0 1 -2"),
     # 200,000 steps, of which the first line has 19,998; its end moves to the last line, a step farther
     "d.rw": rw(1, "step 1", "color 1", "line 2 5 20000 5", *[f"line 0 {y} 30000 {y}" for y in range(100, 700, 100)],
                "line 20001 5 20001 7"),
@@ -956,9 +983,9 @@ row("snaps that are refused", {
     refused("stitch_drawing snap 1 f.rw h.rw", "f.rw: start or end repeated"),
     refused("stitch_drawing snap 1 g.rw h.rw", "g.rw: start or end repeated"))
 
-row("spaced drawings that are refused", {"b.rw": rw(1, *TWICE_601), "c.rw": rw(1, *POINTS_65536)},
-    refused("stitch_drawing space b.rw h.rw", "b.rw: more than 1024 lines"),
-    refused("stitch_drawing space c.rw h.rw", "c.rw: more than 65536 points"))
+row("large drawings of version 1 whose lines would be cut", {"b.rw": rw(1, *TWICE_601), "c.rw": rw(1, *POINTS_65536)}, *[
+    refused(f"stitch_drawing {command} {name} h.rw", f"{name}: redwork 1 can't be kept: migrate it first")
+    for command in ("snap 0", "cross", "space", "free", "near") for name in ("b.rw", "c.rw")])
 
 NEAR = ["step 20", "color 1", "line 0 0 80 0 80 80 0 80 0 0", "line 40 1 40 40"]
 row("a snap and a look", {"a.rw": rw(3, *NEAR)},

@@ -1,14 +1,15 @@
 -- What is proved of each command: its plan decides, and the outputs of its products are the files that it writes.
-use Rattle.std.proofs.Common.{List, [], ◌∷◌, ◌==◌, ℕ, Bool, true, false, Option, Ok, Err, Result, length}
+use Rattle.std.proofs.Common.{List, [], ◌∷◌, ℕ, Bool, true, false, Option, Ok, Err, Result}
 use Rattle.near_pieces.specs.NearDrawings.{drawn_with}
 use Rattle.drawing_commands.proofs.Names.{DrawingValue, stitch_drawing_after, BadEdit, drawing_edit_read, edited_plan, edits_applied, look_read, DrawingOrder, editing, space_made, space_read, drawing_of, IsSoundPlan, accepts_sound, ends, named, parses_sound, program_sound, refuses_sound, SpacedDrawing, drawing_outputs_of, drawing_plan_of, IsEdited, IsLook, looking, spacing, telling, IsSpaceProduct, freeing, free_made, free_read, IsFreeProduct, lines_joined, JoinedLines, nearing, near_made, near_read, IsNearProduct, MetDrawing, IsMeetProduct, meet_made, met_of, meet_read, meeting}
 use Rattle.drawing_text.specs.DrawingLines.{lines_read}
 use Rattle.line_graph.specs.declared.draw_kind.DrawKind.{DrawKind}
+use Rattle.line_graph.specs.JoinedDrawings.{is_joined}
 use Rattle.met_drawings.specs.declared.meet_fault.MeetFault.{MeetFault}
 use Rattle.program_texts.specs.MistakenWords.{MistakenWord}
 use Rattle.program_texts.specs.CompanionUsage.{usage_with}
 use Rattle.drawing_commands.specs.Usage.{drawing_program_name, drawing_usage_text}
-use Rattle.drawing_commands.specs.VersionOne.{plan_if_kept}
+use Rattle.drawing_commands.specs.VersionOne.{plan_if_joined, plan_if_kept}
 use Rattle.outside_io.specs.Views.{SinkView, StoreView}
 use Rattle.program_shell.specs.ExactPlans.{IsSoundProgram}
 use Rattle.program_shell.specs.FinishedRuns.{FinishesRun}
@@ -22,10 +23,13 @@ use Rattle.program_shell.specs.declared.status.Status.{Status}
 use Rattle.spaced_lines.specs.SpacedDrawings.{space_of}
 
 -- A plan that refuses a drawing whose lines would be cut is sound where the next one is.
-kept_sound : (outputs : List (List ℕ)) (name : List ℕ) (next : Plan) (is : Bool) → IsSoundPlan outputs next
-    → IsSoundPlan outputs (plan_if_kept name next is)
-kept_sound outputs name next true sound = sound
-kept_sound outputs name next false sound = refuses_sound outputs _
+kept_sound : (outputs : List (List ℕ)) (name : List ℕ) (d : DrawingValue) (next : Plan) → IsSoundPlan outputs next
+    → IsSoundPlan outputs (plan_if_kept name d next)
+kept_sound outputs name d next sound = by_test (is_joined d)
+  where
+    by_test : (t : Bool) → IsSoundPlan outputs (plan_if_joined name next t)
+    by_test true = sound
+    by_test false = refuses_sound outputs _
 
 -- The plan of each order is sound.
 order_sound : (order : DrawingOrder) → IsSoundPlan (drawing_outputs_of order) (drawing_plan_of order)
@@ -33,7 +37,8 @@ order_sound (looking order) = parses_sound [] order.file lines_read (look_read o
     (λ read. accepts_sound [] (IsLook order.gap read.drawing read.drawn) (λ product is. named product _ is.made))
     (λ fault. refuses_sound [] _)
 order_sound (meeting order) = parses_sound (order.output ∷ []) order.input lines_read (meet_read order)
-    (λ read. made read.drawing (met_of order.rule read.drawn.drawing read.drawing.starts read.drawing.ends))
+    (λ read. kept_sound (order.output ∷ []) order.input read.drawing _
+    (made read.drawing (met_of order.rule read.drawn.drawing read.drawing.starts read.drawing.ends)))
     (λ fault. refuses_sound (order.output ∷ []) _)
   where
     made : (d : DrawingValue) (said : Result MetDrawing MeetFault) → IsSoundPlan (order.output ∷ []) (meet_made order d said)
@@ -41,7 +46,8 @@ order_sound (meeting order) = parses_sound (order.output ∷ []) order.input lin
         (λ product is. named product _ is.written.made)
     made d (Err fault) = refuses_sound (order.output ∷ []) _
 order_sound (spacing order) = parses_sound (order.output ∷ []) order.input lines_read (space_read order)
-    (λ read. made read.drawn.drawing (space_of order.limits read.drawn.drawing read.drawing.starts read.drawing.ends))
+    (λ read. kept_sound (order.output ∷ []) order.input read.drawing _
+    (made read.drawn.drawing (space_of order.limits read.drawn.drawing read.drawing.starts read.drawing.ends)))
     (λ fault. refuses_sound (order.output ∷ []) _)
   where
     made : (d : DrawingValue) (said : Result SpacedDrawing DrawKind) → IsSoundPlan (order.output ∷ []) (space_made order d said)
@@ -49,23 +55,24 @@ order_sound (spacing order) = parses_sound (order.output ∷ []) order.input lin
         (λ product is. named product _ is.written.made)
     made d (Err kind) = refuses_sound (order.output ∷ []) _
 order_sound (freeing order) = parses_sound (order.output ∷ []) order.input lines_read (free_read order)
-    (λ read. made (length read.drawing.lines) (lines_joined read.drawn.drawing read.drawing.starts read.drawing.ends))
+    (λ read. kept_sound (order.output ∷ []) order.input read.drawing _
+    (made (lines_joined read.drawn.drawing read.drawing.starts read.drawing.ends)))
     (λ fault. refuses_sound (order.output ∷ []) _)
   where
-    made : (count : ℕ) (said : Result JoinedLines DrawKind) → IsSoundPlan (order.output ∷ []) (free_made order count said)
-    made count (Ok lines) = kept_sound (order.output ∷ []) order.input _ (length lines.joined.lines == count)
-        (accepts_sound (order.output ∷ []) (IsFreeProduct order.output lines.drawn lines.joined)
-        (λ product is. named product _ is.written.made))
-    made count (Err kind) = refuses_sound (order.output ∷ []) _
+    made : (said : Result JoinedLines DrawKind) → IsSoundPlan (order.output ∷ []) (free_made order said)
+    made (Ok lines) = accepts_sound (order.output ∷ []) (IsFreeProduct order.output lines.drawn lines.joined)
+        (λ product is. named product _ is.written.made)
+    made (Err kind) = refuses_sound (order.output ∷ []) _
 order_sound (nearing order) = parses_sound (order.output ∷ []) order.input drawing_of (near_read order)
-    (λ d. made (length d.lines) (drawn_with d d.lines d.starts)) (λ fault. refuses_sound (order.output ∷ []) _)
+    (λ d. kept_sound (order.output ∷ []) order.input d _ (made (drawn_with d d.lines d.starts)))
+    (λ fault. refuses_sound (order.output ∷ []) _)
   where
-    made : (lines : ℕ) (said : Result DrawingValue DrawKind) → IsSoundPlan (order.output ∷ []) (near_made order lines said)
-    made lines (Ok before) = kept_sound (order.output ∷ []) order.input _ (length before.lines == lines)
-        (accepts_sound (order.output ∷ []) (IsNearProduct order.output before) (λ product is. named product _ is.made))
-    made lines (Err kind) = refuses_sound (order.output ∷ []) _
+    made : (said : Result DrawingValue DrawKind) → IsSoundPlan (order.output ∷ []) (near_made order said)
+    made (Ok before) = accepts_sound (order.output ∷ []) (IsNearProduct order.output before) (λ product is. named product _ is.made)
+    made (Err kind) = refuses_sound (order.output ∷ []) _
 order_sound (editing order) = parses_sound (order.output ∷ []) order.input drawing_of (drawing_edit_read order)
-    (λ d. made (edits_applied 1 order.edits d)) (λ fault. refuses_sound (order.output ∷ []) _)
+    (λ d. kept_sound (order.output ∷ []) order.input d _ (made (edits_applied 1 order.edits d)))
+    (λ fault. refuses_sound (order.output ∷ []) _)
   where
     made : (said : Result DrawingValue BadEdit) → IsSoundPlan (order.output ∷ []) (edited_plan order.input order.output said)
     made (Ok d) = accepts_sound (order.output ∷ []) (IsEdited order.output d) (λ product is. named product _ is.made)

@@ -19,6 +19,7 @@ use Rattle.program_texts.specs.DrawingTexts.{draw_kind_text}
 use Rattle.program_texts.specs.MigrationReports.{migrate_report}
 use Rattle.drawing_commands.specs.declared.bad_edit.BadEdit.{BadEdit}
 use Rattle.drawing_commands.specs.FaultTexts.{plan_after_reading}
+use Rattle.drawing_commands.specs.VersionOne.{plan_if_kept}
 
 -- The order of `edit`: the drawing to read, the file to write, and the edits in order.
 pub record DrawingEditOrder : Type 0 where
@@ -72,10 +73,14 @@ abbrev pub edited_plan : (input output : List ℕ) → Result DrawingValue BadEd
 edited_plan input output (Ok d) = accepts (IsEdited output d)
 edited_plan input output (Err bad) = refuses (bad_edit_text input bad)
 
+-- The plan for a drawing: it is edited, if no line is cut but by an edit.
+abbrev pub edit_lines : DrawingEditOrder → DrawingValue → Plan
+edit_lines order d = plan_if_kept order.input d
+    (edited_plan order.input order.output (edits_applied 1 order.edits d))
+
 -- The plan for the result of reading the drawing: it is edited, and a fault is refused.
 abbrev pub drawing_edit_read : DrawingEditOrder → Result DrawingValue DrawFault → Plan
-drawing_edit_read order = plan_after_reading order.input (λ d.
-    edited_plan order.input order.output (edits_applied 1 order.edits d))
+drawing_edit_read order = plan_after_reading order.input (edit_lines order)
 
 -- The plan of `edit`: read the drawing file, then write the edited drawing.
 abbrev pub drawing_edit_plan : DrawingEditOrder → Plan

@@ -1,6 +1,6 @@
 -- The command `free`: pieces without start and end get the best ones. The lines are written whole,
 -- as they were drawn.
-use Rattle.std.specs.Prelude.{ℕ, ◌==◌, Bool, List, Result, Ok, Err, length}
+use Rattle.std.specs.Prelude.{ℕ, List, Result, Ok, Err}
 use Rattle.drawing_text.specs.declared.draw_fault.DrawFault.{DrawFault}
 use Rattle.drawing_text.specs.declared.lines_read.LinesRead.{LinesRead}
 use Rattle.drawing_text.specs.DrawingLines.{lines_read}
@@ -36,21 +36,16 @@ pub record IsFreeProduct (output : List ℕ) (drawn before : DrawingValue) (prod
   pub written : IsWholeProduct output drawn freed.joined (free_report freed.pieces freed.found)
       product
 
--- The plan for lines as they are drawn and their joined drawing: it is accepted if no line was cut.
-abbrev pub free_kept : FreeOrder → JoinedLines → Bool → Plan
-free_kept order lines = plan_if_kept order.input
-    (accepts (IsFreeProduct order.output lines.drawn lines.joined))
-
--- The plan for joined lines, which were read as a number of lines: a fault is refused.
-abbrev pub free_made : FreeOrder → (count : ℕ) → Result JoinedLines DrawKind → Plan
-free_made order count (Ok lines) = free_kept order lines (length lines.joined.lines == count)
-free_made order count (Err why) = refuses (text_about order.input (draw_kind_text why))
+-- The plan for joined lines: they are freed, and a fault is refused.
+abbrev pub free_made : FreeOrder → Result JoinedLines DrawKind → Plan
+free_made order (Ok lines) = accepts (IsFreeProduct order.output lines.drawn lines.joined)
+free_made order (Err why) = refuses (text_about order.input (draw_kind_text why))
 
 -- The plan for a drawing and its lines as they are drawn: these are joined, with the starts and
--- ends of the drawing.
+-- ends of the drawing, if no line is cut.
 abbrev pub free_lines : FreeOrder → LinesRead → Plan
-free_lines order read = free_made order (length read.drawing.lines)
-    (lines_joined read.drawn.drawing read.drawing.starts read.drawing.ends)
+free_lines order read = plan_if_kept order.input read.drawing (free_made order
+    (lines_joined read.drawn.drawing read.drawing.starts read.drawing.ends))
 
 -- The plan for the result of reading the drawing: a fault is refused.
 abbrev pub free_read : FreeOrder → Result LinesRead DrawFault → Plan

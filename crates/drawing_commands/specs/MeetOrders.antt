@@ -16,6 +16,7 @@ use Rattle.met_drawings.specs.MetDrawings.{met_of}
 use Rattle.program_shell.specs.Plans.{Plan, accepts, reads, refuses}
 use Rattle.program_shell.specs.Products.{ProductValue}
 use Rattle.drawing_commands.specs.FaultTexts.{plan_after_reading}
+use Rattle.drawing_commands.specs.VersionOne.{plan_if_kept}
 use Rattle.drawing_commands.specs.WholeProducts.{IsWholeProduct}
 use Rattle.drawing_commands.specs.declared.meeting.MeetReport.{MeetReport}
 use Rattle.drawing_commands.specs.declared.meeting.MeetReport.TheVariants as report
@@ -68,9 +69,13 @@ meet_made order d (Err fault) = refuses (meet_fault_text order.input fault)
 
 -- The plan for a drawing and its lines as they are drawn: these are made to meet, with the starts
 -- and ends of the drawing.
-abbrev pub meet_lines : MeetOrder → LinesRead → Plan
-meet_lines order read = meet_made order read.drawing
+abbrev pub meet_kept : MeetOrder → LinesRead → Plan
+meet_kept order read = meet_made order read.drawing
     (met_of order.rule read.drawn.drawing read.drawing.starts read.drawing.ends)
+
+-- The plan for a drawing and its lines, if no line would be cut before they are made to meet.
+abbrev pub meet_lines : MeetOrder → LinesRead → Plan
+meet_lines order read = plan_if_kept order.input read.drawing (meet_kept order read)
 
 -- The plan for the result of reading the drawing: a fault is refused.
 abbrev pub meet_read : MeetOrder → Result LinesRead DrawFault → Plan

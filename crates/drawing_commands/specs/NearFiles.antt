@@ -1,6 +1,6 @@
 -- The command `near`: the pieces of each block are sewn in an order with little travel. The drawing
 -- is written with its lines cut where they meet.
-use Rattle.std.specs.Prelude.{◌≡◌, ℕ, ◌==◌, Bool, List, ◌++◌, Result, Ok, Err, codes, decimal, length}
+use Rattle.std.specs.Prelude.{◌≡◌, ℕ, List, ◌++◌, Result, Ok, Err, codes, decimal}
 use Rattle.design_model.specs.TextLines.{newline}
 use Rattle.drawing_text.specs.declared.draw_fault.DrawFault.{DrawFault}
 use Rattle.drawing_text.specs.DrawingText.{drawing_of}
@@ -42,18 +42,14 @@ pub record IsNearProduct (output : List ℕ) (before : DrawingValue) (product : 
   pub made : product ≡ one_file_product output (drawn_text found.drawing)
       (near_report found.before found.after found.pieces)
 
--- The plan for a joined drawing: it is accepted if no line was cut.
-abbrev pub near_kept : NearFileOrder → DrawingValue → Bool → Plan
-near_kept order before = plan_if_kept order.input (accepts (IsNearProduct order.output before))
+-- The plan for a joined drawing: it is accepted, and a fault is refused.
+abbrev pub near_made : NearFileOrder → Result DrawingValue DrawKind → Plan
+near_made order (Ok before) = accepts (IsNearProduct order.output before)
+near_made order (Err why) = refuses (text_about order.input (draw_kind_text why))
 
--- The plan for the joined drawing of a number of lines: a fault is refused.
-abbrev pub near_made : NearFileOrder → (lines : ℕ) → Result DrawingValue DrawKind → Plan
-near_made order lines (Ok before) = near_kept order before (length before.lines == lines)
-near_made order lines (Err why) = refuses (text_about order.input (draw_kind_text why))
-
--- The plan for a drawing: its lines are cut where they meet.
+-- The plan for a drawing: it is drawn again, if no line is cut.
 abbrev pub near_drawing : NearFileOrder → DrawingValue → Plan
-near_drawing order d = near_made order (length d.lines) (drawn_with d d.lines d.starts)
+near_drawing order d = plan_if_kept order.input d (near_made order (drawn_with d d.lines d.starts))
 
 -- The plan for the result of reading the drawing: a fault is refused.
 abbrev pub near_read : NearFileOrder → Result DrawingValue DrawFault → Plan

@@ -18,6 +18,7 @@ use Rattle.program_shell.specs.Products.{ProductValue}
 use Rattle.program_texts.specs.DrawingTexts.{draw_kind_text}
 use Rattle.drawing_commands.specs.FaultTexts.{plan_after_reading}
 use Rattle.drawing_commands.specs.LengthSpans.{span_of}
+use Rattle.drawing_commands.specs.VersionOne.{plan_if_kept}
 use Rattle.drawing_commands.specs.WholeProducts.{IsWholeProduct}
 use Rattle.drawing_commands.specs.SpaceTexts.{count_change_text, piece_count_text, span_change_text}
 
@@ -55,9 +56,13 @@ space_made order drawn (Err why) = refuses (text_about order.input (draw_kind_te
 
 -- The plan for a drawing and its lines as they are drawn: these are spaced, with the starts and
 -- ends of the drawing.
-abbrev pub space_lines : SpaceOrder → LinesRead → Plan
-space_lines order read = space_made order read.drawn.drawing
+abbrev pub space_kept : SpaceOrder → LinesRead → Plan
+space_kept order read = space_made order read.drawn.drawing
     (space_of order.limits read.drawn.drawing read.drawing.starts read.drawing.ends)
+
+-- The plan for a drawing and its lines, if no line is cut.
+abbrev pub space_lines : SpaceOrder → LinesRead → Plan
+space_lines order read = plan_if_kept order.input read.drawing (space_kept order read)
 
 -- The plan for the result of reading the drawing: a fault is refused.
 abbrev pub space_read : SpaceOrder → Result LinesRead DrawFault → Plan

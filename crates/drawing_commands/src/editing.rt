@@ -1,6 +1,6 @@
 ghost use Rattle.command_words.specs.ValidNames.{AreFileNames};
 ghost use Rattle.drawing_commands.specs.DrawingEditWords.{drawing_edits_of, parsed_drawing_edits};
-ghost use Rattle.drawing_commands.specs.DrawingEditing.{drawing_edit_order, drawing_edit_plan, edited_plan, edits_applied};
+ghost use Rattle.drawing_commands.specs.DrawingEditing.{drawing_edit_order, drawing_edit_plan, edit_lines, edited_plan, edits_applied};
 ghost use Rattle.line_graph.specs.EndOrders.{HasOrderedEnds};
 ghost use Rattle.program_shell.specs.StepOutcomes.{RunsPlan, RunsPurePlan};
 ghost use Rattle.std.specs.Prelude.{◌≤◌, IsSome, length, map, string_bytes};
@@ -8,6 +8,7 @@ ghost use Rattle.std.specs.Prelude.{◌≤◌, IsSome, length, map, string_bytes
 use crate::applied_edits::edited;
 use crate::edit_failures::edit_failure;
 use crate::edited_files::written;
+use crate::version_one::{is_kept, not_kept};
 use command_words::FileNames;
 use drawing_text::texts_order_ends;
 use line_graph::Drawing;
@@ -32,7 +33,27 @@ pub(crate) fn edit<'a, S: Store>(
 {
     texts_order_ends();
     let drawing = drawing_in(alloc, store, names.input)?;
-    edit_read(alloc, names, edits, &drawing)
+    edit_if_kept(alloc, names, edits, &drawing)
+}
+
+/// Edits a drawing that was read, if no line is cut but by an edit.
+fn edit_if_kept<'a>(
+    alloc: Global,
+    names: FileNames<'a>,
+    edits: &[String],
+    drawing: &Drawing,
+) -> Made<'a>
+    requires names { AreFileNames names }
+    requires edits { IsSome (parsed_drawing_edits (map (λ word. string_bytes word) edits.now)) }
+    requires some { 1 ≤ length edits.now }
+    requires ordered { HasOrderedEnds drawing.now }
+    ensures { RunsPurePlan (edit_lines (drawing_edit_order names.entry.input.now names.entry.output.now
+        (drawing_edits_of (map (λ word. string_bytes word) edits.now))) drawing.now) result }
+{
+    if !is_kept(alloc, drawing)? {
+        return Err(not_kept(alloc, names.input));
+    }
+    edit_read(alloc, names, edits, drawing)
 }
 
 fn edit_read<'a>(

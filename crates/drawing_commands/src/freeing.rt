@@ -1,19 +1,19 @@
 ghost use Rattle.command_words.specs.ValidNames.{AreFileNames};
-ghost use Rattle.drawing_commands.specs.FreeOrders.{IsFreeProduct, free_kept, free_lines, free_order, free_plan};
+ghost use Rattle.drawing_commands.specs.FreeOrders.{IsFreeProduct, free_lines, free_made, free_order, free_plan};
 ghost use Rattle.drawing_commands.specs.WholeProducts.{IsWhole};
+ghost use Rattle.free_ends.specs.FreedDrawings.{lines_joined};
 ghost use Rattle.line_graph.specs.EndOrders.{HasOrderedEnds};
 ghost use Rattle.program_shell.specs.Products.{product_value};
 ghost use Rattle.program_shell.specs.StepOutcomes.{RunsPlan, RunsPurePlan};
-ghost use Rattle.std.specs.Prelude.{◌≡◌, ◌==◌, IfOk, length};
+ghost use Rattle.std.specs.Prelude.{IfOk};
 
 use crate::free_texts::describe_free;
 use crate::space_texts::space_failure;
-use crate::version_one::not_kept;
+use crate::version_one::{is_kept, not_kept};
 use crate::whole_files::whole_product;
 use command_words::FileNames;
 use design_model::Memory;
 use free_ends::{JoinedLines, free, join_lines};
-use line_graph::Drawing;
 use outside_io::Store;
 use program_inputs::{LinesRead, lines_in};
 use program_shell::{Made, Product};
@@ -30,54 +30,50 @@ pub(crate) fn free_file<'a, S: Store>(
         (S.view store.old) (S.view store.new) result }
 {
     let read = lines_in(alloc, store, names.input)?;
-    free_lines_of(alloc, names, &read)
+    free_if_kept(alloc, names, &read)
+}
+
+/// Frees lines as they are drawn, if none of them is cut.
+fn free_if_kept<'a>(alloc: Global, names: FileNames<'a>, read: &LinesRead) -> Made<'a>
+    requires names { AreFileNames names }
+    requires ordered { HasOrderedEnds read.now.drawing }
+    ensures { RunsPurePlan (free_lines (free_order names.entry.input.now names.entry.output.now)
+        read.now) result }
+{
+    if !is_kept(alloc, &read.drawing)? {
+        return Err(not_kept(alloc, names.input));
+    }
+    free_lines_of(alloc, names, read)
 }
 
 /// Frees lines as they are drawn, with the starts and ends of their drawing.
 fn free_lines_of<'a>(alloc: Global, names: FileNames<'a>, read: &LinesRead) -> Made<'a>
     requires names { AreFileNames names }
     requires ordered { HasOrderedEnds read.now.drawing }
-    ensures { RunsPurePlan (free_lines (free_order names.entry.input.now names.entry.output.now)
-        read.now) result }
+    ensures { RunsPurePlan (free_made (free_order names.entry.input.now names.entry.output.now)
+        (lines_joined read.now.drawn.drawing read.now.drawing.starts read.now.drawing.ends)) result }
 {
     let drawn = &read.drawn.drawing;
     match join_lines(alloc, drawn, read.drawing.starts(), read.drawing.ends()) {
-        Ok(lines) => free_if_kept(alloc, names, &lines, read.drawing.line_count()),
+        Ok(lines) => {
+            let product = free_product(alloc, names.output, &lines)?;
+            Ok(product)
+        }
         Err(why) => Err(space_failure(alloc, names.input, why)),
     }
-}
-
-/// Frees joined lines, if these are as many as were read.
-fn free_if_kept<'a>(
-    alloc: Global,
-    names: FileNames<'a>,
-    lines: &JoinedLines,
-    count: u32,
-) -> Made<'a>
-    requires names { AreFileNames names }
-    requires whole { IsWhole lines.now.drawn lines.now.joined }
-    ensures { RunsPurePlan (free_kept (free_order names.entry.input.now names.entry.output.now)
-        lines.now (length lines.now.joined.lines == count)) result }
-{
-    if lines.joined.line_count() != count {
-        return Err(not_kept(alloc, names.input));
-    }
-    let product = free_product(alloc, names.output, &lines.drawn, &lines.joined)?;
-    Ok(product)
 }
 
 fn free_product<'a>(
     alloc: Global,
     output: &'a str,
-    drawn: &Drawing,
-    before: &Drawing,
+    lines: &JoinedLines,
 ) -> Result<Product<'a>, Memory>
-    requires { IsWhole drawn.now before.now }
+    requires { IsWhole lines.now.drawn lines.now.joined }
     ensures { IfOk result (λ product.
-        IsFreeProduct output.now drawn.now before.now (product_value product)) }
+        IsFreeProduct output.now lines.now.drawn lines.now.joined (product_value product)) }
 {
-    let freed = free(alloc, drawn, before)?;
+    let freed = free(alloc, &lines.drawn, &lines.joined)?;
     let report = describe_free(alloc, freed.pieces.as_slice(), freed.found.as_slice())?;
-    let product = whole_product(alloc, output, drawn, &freed.joined, report)?;
+    let product = whole_product(alloc, output, &lines.drawn, &freed.joined, report)?;
     Ok(product)
 }

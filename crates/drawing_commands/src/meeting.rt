@@ -1,5 +1,5 @@
 ghost use Rattle.command_words.specs.ValidNames.{AreFileNames};
-ghost use Rattle.drawing_commands.specs.MeetOrders.{IsMeetProduct, cross_order, meet_lines, meet_plan, meet_report, snap_order};
+ghost use Rattle.drawing_commands.specs.MeetOrders.{IsMeetProduct, cross_order, meet_kept, meet_lines, meet_plan, meet_report, snap_order};
 ghost use Rattle.drawing_commands.specs.WholeProducts.{IsWhole};
 ghost use Rattle.drawing_commands.specs.declared.requests.TheConstants.{MAX_GAP};
 ghost use Rattle.line_graph.specs.EndOrders.{HasOrderedEnds};
@@ -8,6 +8,7 @@ ghost use Rattle.program_shell.specs.StepOutcomes.{RunsPlan, RunsPurePlan};
 ghost use Rattle.std.specs.Prelude.{◌≡◌, ◌≤◌, IfOk};
 
 use crate::meet_texts::{describe_cross, describe_snap, meet_failure};
+use crate::version_one::{is_kept, not_kept};
 use crate::whole_files::whole_product;
 use command_words::FileNames;
 use design_model::{Bytes, Memory};
@@ -45,7 +46,7 @@ pub(crate) fn snap_file<'a, S: Store>(
         lists_crossings: false,
         keeps_copies,
     };
-    meet_lines_of(alloc, rule, MeetReport::Snap, names, &read)
+    meet_if_kept(alloc, rule, MeetReport::Snap, names, &read)
 }
 
 /// Makes lines of a drawing list where they cross, and writes them whole, with its starts and ends.
@@ -66,7 +67,31 @@ pub(crate) fn cross_file<'a, S: Store>(
         lists_crossings: true,
         keeps_copies,
     };
-    meet_lines_of(alloc, rule, MeetReport::Cross, names, &read)
+    meet_if_kept(alloc, rule, MeetReport::Cross, names, &read)
+}
+
+/// Makes the lines of a drawing meet, if none of them would be cut before.
+fn meet_if_kept<'a>(
+    alloc: Global,
+    rule: MeetingRule,
+    report: MeetReport,
+    names: FileNames<'a>,
+    read: &LinesRead,
+) -> Made<'a>
+    requires names { AreFileNames names }
+    requires ordered { HasOrderedEnds read.now.drawing }
+    requires gap { rule.gap ≤ MAX_GAP }
+    ensures { RunsPurePlan (meet_lines (record {
+      rule = rule;
+      report = report;
+      input = names.entry.input.now;
+      output = names.entry.output.now;
+    }) read.now) result }
+{
+    if !is_kept(alloc, &read.drawing)? {
+        return Err(not_kept(alloc, names.input));
+    }
+    meet_lines_of(alloc, rule, report, names, read)
 }
 
 /// Makes the lines of a drawing meet as they are drawn, with its starts and ends.
@@ -80,7 +105,7 @@ fn meet_lines_of<'a>(
     requires names { AreFileNames names }
     requires ordered { HasOrderedEnds read.now.drawing }
     requires gap { rule.gap ≤ MAX_GAP }
-    ensures { RunsPurePlan (meet_lines (record {
+    ensures { RunsPurePlan (meet_kept (record {
       rule = rule;
       report = report;
       input = names.entry.input.now;

@@ -1,14 +1,15 @@
 ghost use Rattle.command_words.specs.ValidNames.{AreFileNames};
-ghost use Rattle.drawing_commands.specs.NearFiles.{IsNearProduct, near_drawing, near_file_order, near_kept, near_plan, near_report};
+ghost use Rattle.drawing_commands.specs.NearFiles.{IsNearProduct, near_drawing, near_file_order, near_made, near_plan, near_report};
 ghost use Rattle.line_graph.specs.EndOrders.{HasOrderedEnds};
 ghost use Rattle.line_graph.specs.JoinedDrawings.{is_joined};
+ghost use Rattle.near_pieces.specs.NearDrawings.{drawn_with};
 ghost use Rattle.program_shell.specs.Products.{product_value};
 ghost use Rattle.program_shell.specs.StepOutcomes.{RunsPlan, RunsPurePlan};
-ghost use Rattle.std.specs.Prelude.{◌≡◌, ◌==◌, IfOk, length, string_bytes, true};
+ghost use Rattle.std.specs.Prelude.{◌≡◌, IfOk, string_bytes, true};
 
 use crate::edited_files::text_of;
 use crate::space_texts::space_failure;
-use crate::version_one::not_kept;
+use crate::version_one::{is_kept, not_kept};
 use command_words::FileNames;
 use design_model::Memory;
 use drawing_text::texts_order_ends;
@@ -31,35 +32,36 @@ pub(crate) fn near_file<'a, S: Store>(
 {
     texts_order_ends();
     let drawing = drawing_in(alloc, store, names.input)?;
-    near_read_drawing(alloc, names, &drawing)
+    near_if_kept(alloc, names, &drawing)
 }
 
-/// Cuts the lines of a drawing where they meet, and sews its pieces near each other.
-fn near_read_drawing<'a>(alloc: Global, names: FileNames<'a>, drawing: &Drawing) -> Made<'a>
+/// Sews the pieces of a drawing near each other, if no line is cut.
+fn near_if_kept<'a>(alloc: Global, names: FileNames<'a>, drawing: &Drawing) -> Made<'a>
     requires names { AreFileNames names }
     requires ordered { HasOrderedEnds drawing.now }
     ensures { RunsPurePlan (near_drawing (near_file_order names.entry.input.now names.entry.output.now)
         drawing.now) result }
 {
-    match draw_with(alloc, drawing, drawing.lines(), drawing.starts()) {
-        Ok(before) => near_if_kept(alloc, names, &before, drawing.line_count()),
-        Err(why) => Err(space_failure(alloc, names.input, why)),
-    }
-}
-
-/// Sews the pieces of a joined drawing near each other, if it has as many lines as it was read with.
-fn near_if_kept<'a>(alloc: Global, names: FileNames<'a>, before: &Drawing, lines: u32) -> Made<'a>
-    requires names { AreFileNames names }
-    requires joined { is_joined before.now ≡ true }
-    requires ordered { HasOrderedEnds before.now }
-    ensures { RunsPurePlan (near_kept (near_file_order names.entry.input.now names.entry.output.now)
-        before.now (length before.now.lines == lines)) result }
-{
-    if before.line_count() != lines {
+    if !is_kept(alloc, drawing)? {
         return Err(not_kept(alloc, names.input));
     }
-    let product = near_product(alloc, names.output, before)?;
-    Ok(product)
+    near_read_drawing(alloc, names, drawing)
+}
+
+/// Draws a drawing again, and sews its pieces near each other.
+fn near_read_drawing<'a>(alloc: Global, names: FileNames<'a>, drawing: &Drawing) -> Made<'a>
+    requires names { AreFileNames names }
+    requires ordered { HasOrderedEnds drawing.now }
+    ensures { RunsPurePlan (near_made (near_file_order names.entry.input.now names.entry.output.now)
+        (drawn_with drawing.now drawing.now.lines drawing.now.starts)) result }
+{
+    match draw_with(alloc, drawing, drawing.lines(), drawing.starts()) {
+        Ok(before) => {
+            let product = near_product(alloc, names.output, &before)?;
+            Ok(product)
+        }
+        Err(why) => Err(space_failure(alloc, names.input, why)),
+    }
 }
 
 fn near_product<'a>(alloc: Global, output: &'a str, before: &Drawing) -> Result<Product<'a>, Memory>

@@ -1,5 +1,5 @@
 ghost use Rattle.command_words.specs.ValidNames.{AreFileNames};
-ghost use Rattle.drawing_commands.specs.SpaceOrders.{IsSpaceProduct, space_lines, space_order, space_plan};
+ghost use Rattle.drawing_commands.specs.SpaceOrders.{IsSpaceProduct, space_kept, space_lines, space_order, space_plan};
 ghost use Rattle.drawing_commands.specs.WholeProducts.{IsWhole};
 ghost use Rattle.line_graph.specs.EndOrders.{HasOrderedEnds};
 ghost use Rattle.program_shell.specs.Products.{product_value};
@@ -7,6 +7,7 @@ ghost use Rattle.program_shell.specs.StepOutcomes.{RunsPlan, RunsPurePlan};
 ghost use Rattle.std.specs.Prelude.{IfOk};
 
 use crate::space_texts::{describe_space, space_failure};
+use crate::version_one::{is_kept, not_kept};
 use crate::whole_files::whole_product;
 use command_words::FileNames;
 use design_model::Memory;
@@ -29,7 +30,25 @@ pub(crate) fn space_file<'a, S: Store>(
         (S.view store.old) (S.view store.new) result }
 {
     let read = lines_in(alloc, store, names.input)?;
-    space_lines_of(alloc, limits, names, &read)
+    space_if_kept(alloc, limits, names, &read)
+}
+
+/// Spaces lines as they are drawn, if none of them is cut.
+fn space_if_kept<'a>(
+    alloc: Global,
+    limits: SpacingLimits,
+    names: FileNames<'a>,
+    read: &LinesRead,
+) -> Made<'a>
+    requires names { AreFileNames names }
+    requires ordered { HasOrderedEnds read.now.drawing }
+    ensures { RunsPurePlan (space_lines (space_order limits names.entry.input.now names.entry.output.now)
+        read.now) result }
+{
+    if !is_kept(alloc, &read.drawing)? {
+        return Err(not_kept(alloc, names.input));
+    }
+    space_lines_of(alloc, limits, names, read)
 }
 
 /// Spaces lines as they are drawn, with the starts and ends of their drawing.
@@ -41,7 +60,7 @@ fn space_lines_of<'a>(
 ) -> Made<'a>
     requires names { AreFileNames names }
     requires ordered { HasOrderedEnds read.now.drawing }
-    ensures { RunsPurePlan (space_lines (space_order limits names.entry.input.now names.entry.output.now)
+    ensures { RunsPurePlan (space_kept (space_order limits names.entry.input.now names.entry.output.now)
         read.now) result }
 {
     let drawn = &read.drawn.drawing;

@@ -5,7 +5,8 @@ use crate::{done, faulted, misused, refused};
 const CROSSED: &str =
     "redwork 2\nname net\nstep 25\ncolor 7\nline 0 0 38 19 100 50\nline 30 90 38 19 40 0\n";
 
-/// Lines that cross, lines that lie on each other, a line drawn again, and two starts.
+/// Lines that cross, lines that lie on each other, a line drawn again, two starts, and lines of version 1 that meet
+/// inside or cross.
 pub const FILES: &[(&str, &str)] = &[
     (
         "net.rw",
@@ -24,6 +25,14 @@ pub const FILES: &[(&str, &str)] = &[
         "starts.rw",
         "redwork 3\nstep 25\ncolor 1\nline 0 0 100 50\nline 30 90 40 0\nstart 0 0\nstart 30 90\n",
     ),
+    (
+        "one.rw",
+        "redwork 1\nstep 20\ncolor 1\nline 0 0 8 0 16 0\nline 8 0 8 5\n",
+    ),
+    (
+        "cross.rw",
+        "redwork 1\nstep 20\ncolor 1\nline 0 0 16 0\nline 8 -5 8 5\n",
+    ),
     ("bad.rw", "redwork 2\ncolor 1\nline 0 0 40\n"),
 ];
 
@@ -41,6 +50,10 @@ pub const RUNS: &[Run] = &[
     done!("cross again.rw out.rw" =>
         "crossings 0 listed 0 dropped 1 left 0 pieces 1 to 1\n",
         "redwork 2\nstep 25\ncolor 1\nline 0 0 40 0\nline 0 0 0 30\n"),
+    refused!("cross one.rw out.rw" => "stitch_drawing: one.rw: redwork 1 can't be kept: migrate it first\n"),
+    done!("cross cross.rw out.rw" =>
+        "crossings 1 listed 2 dropped 0 left 0 pieces 2 to 1\n",
+        "redwork 2\nstep 20\ncolor 1\nline 0 0 8 0 16 0\nline 8 -5 8 0 8 5\n"),
     refused!("cross starts.rw out.rw" => "stitch_drawing: starts.rw: start or end repeated\n"),
     refused!("cross bad.rw out.rw" => "stitch_drawing: bad.rw: line 3: too few points\n"),
     faulted!("cross none.rw out.rw" => "stitch_drawing: cannot read none.rw\n"),

@@ -5,7 +5,15 @@ use crate::{done, faulted, misused, refused};
 pub const FILES: &[(&str, &str)] = &[
     (
         "ok.rw",
-        "redwork 1\nname T\nstep 10\ncolor 1\nline 0 0 40 0 80 0\nline 40 0 40 40\n",
+        "redwork 2\nname T\nstep 10\ncolor 1\nline 0 0 40 0 80 0\nline 40 0 40 40\n",
+    ),
+    (
+        "one.rw",
+        "redwork 1\nstep 20\ncolor 1\nline 0 0 8 0 16 0\nline 8 0 8 5\n",
+    ),
+    (
+        "path.rw",
+        "redwork 1\nstep 20\ncolor 1\nline 0 0 8 0\nline 8 0 8 5\n",
     ),
     (
         "ends.rw",
@@ -34,6 +42,10 @@ pub const RUNS: &[Run] = &[
     done!("edit ends.rw out.rw mirror=y shift=1,0 mirror=x" =>
         "lines 1 pieces 1 cost 4\n",
         "redwork 3\nstep 10\ncolor 1\nline -1 0 -41 10\nstart -1 0\nend -41 10\n"),
+    refused!("edit one.rw out.rw shift=5,-3" => "stitch_drawing: one.rw: redwork 1 can't be kept: migrate it first\n"),
+    done!("edit path.rw out.rw shift=5,-3" =>
+        "lines 2 pieces 1 cost 2\n",
+        "redwork 2\nstep 20\ncolor 1\nline 5 -3 13 -3\nline 13 -3 13 2\n"),
     refused!("edit ok.rw out.rw shift=29920,0 shift=1,0" =>
         "stitch_drawing: ok.rw: edit 2: number out of range\n"),
     refused!("edit long.rw out.rw step=1" =>

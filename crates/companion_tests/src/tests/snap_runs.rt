@@ -8,8 +8,8 @@ const SNAPPED: &str =
 const SNAPPED_ENDS: &str =
     "redwork 3\nstep 10\ncolor 1\nline 0 0 41 1\nline 41 1 60 20\nstart 41 1\nend 0 0\n";
 
-/// Ends and inner points that nearly meet lines, lines that nearly lie on each other, lines of two blocks, and what
-/// is refused.
+/// Ends and inner points that nearly meet lines, lines that nearly lie on each other, lines of two blocks, lines of
+/// version 1 that meet inside, and what is refused.
 pub const FILES: &[(&str, &str)] = &[
     (
         "loose.rw",
@@ -62,6 +62,10 @@ pub const FILES: &[(&str, &str)] = &[
         "redwork 3\nstep 10\ncolor 1\nline 0 0 20 0 40 0\nline 0 0 20 0\nstart 20 0\n",
     ),
     (
+        "one.rw",
+        "redwork 1\nstep 20\ncolor 1\nline 0 0 8 0 16 0\nline 8 0 8 5\n",
+    ),
+    (
         "short.rw",
         "redwork 2\nstep 10\ncolor 1\nline 0 0 80 0\ncolor 2\nline 0 0 80 0\nline 40 2 40 -2\n",
     ),
@@ -110,6 +114,7 @@ pub const RUNS: &[Run] = &[
     refused!("snap 0 copied.rw out.rw" => "stitch_drawing: copied.rw: not a junction\n"),
     refused!("snap 2 short.rw out.rw" =>
         "stitch_drawing: short.rw: block 2 line 3: would vanish\n"),
+    refused!("snap 0 one.rw out.rw" => "stitch_drawing: one.rw: redwork 1 can't be kept: migrate it first\n"),
     misused!("snap 2 pair.rw out.rw keep" =>
         "stitch_drawing: keep: not understood\n"),
 ];

@@ -3,7 +3,7 @@ use super::table_runs::Run;
 use crate::{done, faulted, misused, refused};
 
 /// Points 4 apart on a line with stitches of 10, the same line spaced, points beside a stitch by 4 and by 3 tenths
-/// of a step, lines that meet inside, the same in version 1, texts with faults, and curves of close points: a square of
+/// of a step, lines that meet inside, lines of version 1 that meet inside or at their ends, texts with faults, and curves of close points: a square of
 /// 103 that begins in the middle of a side, circles of 8 and 20 mm with points 5 apart, and one of 2 mm with points 2 apart.
 pub const FILES: &[(&str, &str)] = &[
     (
@@ -25,6 +25,10 @@ pub const FILES: &[(&str, &str)] = &[
     (
         "one.rw",
         "redwork 1\nstep 20\ncolor 1\nline 0 0 8 0 16 0\nline 8 0 8 5\n",
+    ),
+    (
+        "path.rw",
+        "redwork 1\nstep 20\ncolor 1\nline 0 0 8 0\nline 8 0 8 5\n",
     ),
     ("bad.rw", "redwork 2\ncolor 1\nline 0 0 40\n"),
     (
@@ -62,9 +66,10 @@ pub const RUNS: &[Run] = &[
     done!("space ends.rw out.rw" =>
         "points 10 to 7 stitches 8 to 5 shortest 5 to 10 longest 39 to 39 pieces 2\n",
         "redwork 3\nname K\nstep 20\ncolor 5\nline 0 0 12 1 30 0\nline 12 1 12 40\nstart 0 0\nend 12 40\ncolor 7\nline 0 9 10 9\n"),
-    done!("space one.rw out.rw" =>
-        "points 5 to 5 stitches 3 to 3 shortest 5 to 5 longest 8 to 8 pieces 1\n",
-        "redwork 2\nstep 20\ncolor 1\nline 0 0 8 0 16 0\nline 8 0 8 5\n"),
+    refused!("space one.rw out.rw" => "stitch_drawing: one.rw: redwork 1 can't be kept: migrate it first\n"),
+    done!("space path.rw out.rw" =>
+        "points 4 to 4 stitches 2 to 2 shortest 5 to 5 longest 8 to 8 pieces 1\n",
+        "redwork 2\nstep 20\ncolor 1\nline 0 0 8 0\nline 8 0 8 5\n"),
     done!("space dense.rw out.rw length=4" =>
         "points 6 to 6 stitches 5 to 5 shortest 4 to 4 longest 4 to 4 pieces 1\n",
         "redwork 2\nstep 10\ncolor 1\nline 0 0 4 0 8 0 12 0 16 0 20 0\n"),
