@@ -923,6 +923,23 @@ row("a T and an L in version 1", {
     done("stitch_drawing edit b.rw h.rw shift=1,0", "lines 2 pieces 1 cost 2\n", {"h.rw": rw(
         2, "step 20", "color 1", "line 1 0 9 0", "line 9 0 9 5")}))
 
+# A comment is before the next color or line, and stays before it. The line "again" is left out with its comment, and "over" is
+# cut behind its comment.
+SAID = ["# top", "redwork 2", "step 25", "# red", "color 1", "# long", "line 0 0 100 0", "# over", "line 60 0 160 0 160 40", "# again",
+        "line 0 0 60 0", "# blue", "color 2", "", " # apart", "line 0 90 40 90", "#end"]
+row("comments of a drawing", {"a.rw": "\r\n".join(SAID) + "\r\n"},
+    done("stitch_drawing snap 0 a.rw b.rw", "moved 0 listed 2 dropped 2 left 0 pieces 2 to 2\n", {"b.rw": text(
+        "# top", "redwork 2", "step 25", "# red", "color 1", "# long", "line 0 0 60 0 100 0", "# over", "line 100 0 160 0 160 40",
+        "# blue", "color 2", " # apart", "line 0 90 40 90", "#end")}),
+    done("stitch_drawing cross b.rw c.rw", "crossings 0 listed 0 dropped 0 left 0 pieces 2 to 2\n", {"c.rw": SameAs("b.rw")}),
+    done("stitch_drawing space c.rw d.rw", "points 8 to 8 stitches 12 to 12 shortest 40 to 40 longest 60 to 60 pieces 2\n", {
+        "d.rw": SameAs("b.rw")}),
+    done("stitch_drawing free c.rw e.rw", text(
+        "block 1 piece 1 start 160 40 end 0 0 penetrations 21 to 11", "block 2 piece 2 start 40 90 end 0 90 penetrations 5 to 3",
+        "penetrations 26 to 14 pieces 2"), {"e.rw": text(
+        "# top", "redwork 3", "step 25", "# red", "color 1", "# long", "line 0 0 60 0 100 0", "# over", "line 100 0 160 0 160 40",
+        "start 160 40", "end 0 0", "# blue", "color 2", " # apart", "line 0 90 40 90", "start 40 90", "end 0 90", "#end")}))
+
 row("what a drawing may have between its words", {
     "a.rw": "\n".join([
         "#", "", " \t redwork\t 1 \r", "# c\r", "name\ta#b", "step 010\r", "\r", "color 05", " #",

@@ -2,6 +2,8 @@
 use Rattle.std.proofs.Common.{List, [], ◌∷◌, ℕ, Bool, true, false, Option, Ok, Err, Result}
 use Rattle.near_pieces.specs.NearDrawings.{drawn_with}
 use Rattle.drawing_commands.proofs.Names.{DrawingValue, stitch_drawing_after, BadEdit, drawing_edit_read, edited_plan, edits_applied, look_read, DrawingOrder, editing, space_made, space_read, drawing_of, IsSoundPlan, accepts_sound, ends, named, parses_sound, program_sound, refuses_sound, SpacedDrawing, drawing_outputs_of, drawing_plan_of, IsEdited, IsLook, looking, spacing, telling, IsSpaceProduct, freeing, free_made, free_read, IsFreeProduct, lines_joined, JoinedLines, nearing, near_made, near_read, IsNearProduct, MetDrawing, IsMeetProduct, meet_made, met_of, meet_read, meeting}
+use Rattle.drawing_commands.specs.TextsRead.{text_read}
+use Rattle.drawing_comments.specs.declared.text_comments.TextComments.{TextComments}
 use Rattle.drawing_text.specs.DrawingLines.{lines_read}
 use Rattle.line_graph.specs.declared.draw_kind.DrawKind.{DrawKind}
 use Rattle.line_graph.specs.JoinedDrawings.{is_joined}
@@ -36,33 +38,35 @@ order_sound : (order : DrawingOrder) → IsSoundPlan (drawing_outputs_of order) 
 order_sound (looking order) = parses_sound [] order.file lines_read (look_read order)
     (λ read. accepts_sound [] (IsLook order.gap read.drawing read.drawn) (λ product is. named product _ is.made))
     (λ fault. refuses_sound [] _)
-order_sound (meeting order) = parses_sound (order.output ∷ []) order.input lines_read (meet_read order)
-    (λ read. kept_sound (order.output ∷ []) order.input read.drawing _
-    (made read.drawing (met_of order.rule read.drawn.drawing read.drawing.starts read.drawing.ends)))
+order_sound (meeting order) = parses_sound (order.output ∷ []) order.input text_read (meet_read order)
+    (λ text. kept_sound (order.output ∷ []) order.input text.lines.drawing _ (made text.comments text.lines.drawing
+    (met_of order.rule text.lines.drawn.drawing text.lines.drawing.starts text.lines.drawing.ends)))
     (λ fault. refuses_sound (order.output ∷ []) _)
   where
-    made : (d : DrawingValue) (said : Result MetDrawing MeetFault) → IsSoundPlan (order.output ∷ []) (meet_made order d said)
-    made d (Ok met) = accepts_sound (order.output ∷ []) (IsMeetProduct order.report order.output d met)
+    made : (c : TextComments) (d : DrawingValue) (said : Result MetDrawing MeetFault)
+        → IsSoundPlan (order.output ∷ []) (meet_made order c d said)
+    made c d (Ok met) = accepts_sound (order.output ∷ []) (IsMeetProduct order.report order.output c d met)
         (λ product is. named product _ is.written.made)
-    made d (Err fault) = refuses_sound (order.output ∷ []) _
-order_sound (spacing order) = parses_sound (order.output ∷ []) order.input lines_read (space_read order)
-    (λ read. kept_sound (order.output ∷ []) order.input read.drawing _
-    (made read.drawn.drawing (space_of order.limits read.drawn.drawing read.drawing.starts read.drawing.ends)))
+    made c d (Err fault) = refuses_sound (order.output ∷ []) _
+order_sound (spacing order) = parses_sound (order.output ∷ []) order.input text_read (space_read order)
+    (λ text. kept_sound (order.output ∷ []) order.input text.lines.drawing _ (made text.comments text.lines.drawn.drawing
+    (space_of order.limits text.lines.drawn.drawing text.lines.drawing.starts text.lines.drawing.ends)))
     (λ fault. refuses_sound (order.output ∷ []) _)
   where
-    made : (d : DrawingValue) (said : Result SpacedDrawing DrawKind) → IsSoundPlan (order.output ∷ []) (space_made order d said)
-    made d (Ok spaced) = accepts_sound (order.output ∷ []) (IsSpaceProduct order.output d spaced)
+    made : (c : TextComments) (d : DrawingValue) (said : Result SpacedDrawing DrawKind)
+        → IsSoundPlan (order.output ∷ []) (space_made order c d said)
+    made c d (Ok spaced) = accepts_sound (order.output ∷ []) (IsSpaceProduct order.output c d spaced)
         (λ product is. named product _ is.written.made)
-    made d (Err kind) = refuses_sound (order.output ∷ []) _
-order_sound (freeing order) = parses_sound (order.output ∷ []) order.input lines_read (free_read order)
-    (λ read. kept_sound (order.output ∷ []) order.input read.drawing _
-    (made (lines_joined read.drawn.drawing read.drawing.starts read.drawing.ends)))
+    made c d (Err kind) = refuses_sound (order.output ∷ []) _
+order_sound (freeing order) = parses_sound (order.output ∷ []) order.input text_read (free_read order)
+    (λ text. kept_sound (order.output ∷ []) order.input text.lines.drawing _ (made text.comments
+    (lines_joined text.lines.drawn.drawing text.lines.drawing.starts text.lines.drawing.ends)))
     (λ fault. refuses_sound (order.output ∷ []) _)
   where
-    made : (said : Result JoinedLines DrawKind) → IsSoundPlan (order.output ∷ []) (free_made order said)
-    made (Ok lines) = accepts_sound (order.output ∷ []) (IsFreeProduct order.output lines.drawn lines.joined)
+    made : (c : TextComments) (said : Result JoinedLines DrawKind) → IsSoundPlan (order.output ∷ []) (free_made order c said)
+    made c (Ok lines) = accepts_sound (order.output ∷ []) (IsFreeProduct order.output c lines.drawn lines.joined)
         (λ product is. named product _ is.written.made)
-    made (Err kind) = refuses_sound (order.output ∷ []) _
+    made c (Err kind) = refuses_sound (order.output ∷ []) _
 order_sound (nearing order) = parses_sound (order.output ∷ []) order.input drawing_of (near_read order)
     (λ d. kept_sound (order.output ∷ []) order.input d _ (made (drawn_with d d.lines d.starts)))
     (λ fault. refuses_sound (order.output ∷ []) _)

@@ -1,4 +1,5 @@
 pub mod Names
+mod WholeLemmas
 mod MeetLemmas
 mod SpaceLemmas
 pub mod DrawingEditLemmas

@@ -2,8 +2,7 @@
 -- as they were drawn.
 use Rattle.std.specs.Prelude.{ℕ, List, Result, Ok, Err}
 use Rattle.drawing_text.specs.declared.draw_fault.DrawFault.{DrawFault}
-use Rattle.drawing_text.specs.declared.lines_read.LinesRead.{LinesRead}
-use Rattle.drawing_text.specs.DrawingLines.{lines_read}
+use Rattle.drawing_comments.specs.declared.text_comments.TextComments.{TextComments}
 use Rattle.free_ends.specs.declared.freed_drawing.FreedDrawing.{FreedDrawing}
 use Rattle.free_ends.specs.declared.joined_lines.JoinedLines.{JoinedLines}
 use Rattle.free_ends.specs.FreedDrawings.{IsFreed, lines_joined}
@@ -15,6 +14,8 @@ use Rattle.program_shell.specs.Products.{ProductValue}
 use Rattle.program_texts.specs.DrawingTexts.{draw_kind_text}
 use Rattle.drawing_commands.specs.FaultTexts.{plan_after_reading}
 use Rattle.drawing_commands.specs.FreeTexts.{free_report}
+use Rattle.drawing_commands.specs.declared.text_reading.TextRead.{TextRead}
+use Rattle.drawing_commands.specs.TextsRead.{text_read}
 use Rattle.drawing_commands.specs.VersionOne.{plan_if_kept}
 use Rattle.drawing_commands.specs.WholeProducts.{IsWholeProduct}
 
@@ -29,28 +30,29 @@ free_order input output = record { input = input; output = output }
 
 -- The product of `free`: the lines as they are drawn, with the best ends of the pieces that had
 -- none, and a report on them. Each piece has those that are found of it (`IsFreed: ends`).
-pub record IsFreeProduct (output : List ℕ) (drawn before : DrawingValue) (product : ProductValue)
-    : Type 0 where
+pub record IsFreeProduct (output : List ℕ) (comments : TextComments) (drawn before : DrawingValue)
+    (product : ProductValue) : Type 0 where
   pub freed : FreedDrawing
   pub is : IsFreed drawn before freed
-  pub written : IsWholeProduct output drawn freed.joined (free_report freed.pieces freed.found)
-      product
+  pub written : IsWholeProduct output comments drawn freed.joined
+      (free_report freed.pieces freed.found) product
 
 -- The plan for joined lines: they are freed, and a fault is refused.
-abbrev pub free_made : FreeOrder → Result JoinedLines DrawKind → Plan
-free_made order (Ok lines) = accepts (IsFreeProduct order.output lines.drawn lines.joined)
-free_made order (Err why) = refuses (text_about order.input (draw_kind_text why))
+abbrev pub free_made : FreeOrder → TextComments → Result JoinedLines DrawKind → Plan
+free_made order comments (Ok lines) =
+    accepts (IsFreeProduct order.output comments lines.drawn lines.joined)
+free_made order comments (Err why) = refuses (text_about order.input (draw_kind_text why))
 
 -- The plan for a drawing and its lines as they are drawn: these are joined, with the starts and
 -- ends of the drawing, if no line is cut.
-abbrev pub free_lines : FreeOrder → LinesRead → Plan
-free_lines order read = plan_if_kept order.input read.drawing (free_made order
-    (lines_joined read.drawn.drawing read.drawing.starts read.drawing.ends))
+abbrev pub free_lines : FreeOrder → TextRead → Plan
+free_lines order text = plan_if_kept order.input text.lines.drawing (free_made order text.comments
+    (lines_joined text.lines.drawn.drawing text.lines.drawing.starts text.lines.drawing.ends))
 
 -- The plan for the result of reading the drawing: a fault is refused.
-abbrev pub free_read : FreeOrder → Result LinesRead DrawFault → Plan
+abbrev pub free_read : FreeOrder → Result TextRead DrawFault → Plan
 free_read order = plan_after_reading order.input (free_lines order)
 
 -- The plan of `free`: read the drawing file, then write the freed drawing.
 abbrev pub free_plan : FreeOrder → Plan
-free_plan order = reads order.input (λ bytes. free_read order (lines_read bytes))
+free_plan order = reads order.input (λ bytes. free_read order (text_read bytes))

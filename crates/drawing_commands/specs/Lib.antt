@@ -12,6 +12,7 @@ pub mod MeetTexts
 pub mod MeetOrders
 pub mod LengthSpans
 pub mod SpaceTexts
+pub mod TextsRead
 pub mod SpaceOrders
 pub mod VersionOne
 pub mod FreeTexts

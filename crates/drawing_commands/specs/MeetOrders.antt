@@ -3,8 +3,8 @@
 -- its starts and ends move with their points.
 use Rattle.std.specs.Prelude.{ℕ, Bool, true, false, List, length, Result, Ok, Err}
 use Rattle.drawing_text.specs.declared.draw_fault.DrawFault.{DrawFault}
-use Rattle.drawing_text.specs.declared.lines_read.LinesRead.{LinesRead}
-use Rattle.drawing_text.specs.DrawingLines.{lines_read}
+use Rattle.drawing_comments.specs.declared.text_comments.TextComments.{TextComments}
+use Rattle.drawing_comments.specs.MovedComments.{comments_of_parts}
 use Rattle.line_graph.specs.Drawings.{DrawingValue}
 use Rattle.line_graph.specs.declared.piece.Piece.{Piece}
 use Rattle.line_graph.specs.PiecesOfDrawings.{ArePiecesOf}
@@ -16,6 +16,8 @@ use Rattle.met_drawings.specs.MetDrawings.{met_of}
 use Rattle.program_shell.specs.Plans.{Plan, accepts, reads, refuses}
 use Rattle.program_shell.specs.Products.{ProductValue}
 use Rattle.drawing_commands.specs.FaultTexts.{plan_after_reading}
+use Rattle.drawing_commands.specs.declared.text_reading.TextRead.{TextRead}
+use Rattle.drawing_commands.specs.TextsRead.{text_read}
 use Rattle.drawing_commands.specs.VersionOne.{plan_if_kept}
 use Rattle.drawing_commands.specs.WholeProducts.{IsWholeProduct}
 use Rattle.drawing_commands.specs.declared.meeting.MeetReport.{MeetReport}
@@ -53,34 +55,35 @@ meet_report report.Snap counts before after = snap_report counts before after
 meet_report report.Cross counts before after = cross_report counts before after
 
 -- The product: the lines that meet, written whole, and a report on the drawing before and after.
-pub record IsMeetProduct (report : MeetReport) (output : List ℕ) (d : DrawingValue)
-    (met : MetDrawing) (product : ProductValue) : Type 0 where
+pub record IsMeetProduct (report : MeetReport) (output : List ℕ) (comments : TextComments)
+    (d : DrawingValue) (met : MetDrawing) (product : ProductValue) : Type 0 where
   pub before : List Piece
   pub before_are : ArePiecesOf d before
   pub after : List Piece
   pub after_are : ArePiecesOf met.joined after
-  pub written : IsWholeProduct output met.drawn met.joined
+  pub written : IsWholeProduct output (comments_of_parts comments met.parts) met.drawn met.joined
       (meet_report report met.counts (length before) (length after)) product
 
 -- The plan for a drawing and the one whose lines meet: it is accepted, and a fault is refused.
-abbrev pub meet_made : MeetOrder → DrawingValue → Result MetDrawing MeetFault → Plan
-meet_made order d (Ok met) = accepts (IsMeetProduct order.report order.output d met)
-meet_made order d (Err fault) = refuses (meet_fault_text order.input fault)
+abbrev pub meet_made : MeetOrder → TextComments → DrawingValue → Result MetDrawing MeetFault → Plan
+meet_made order comments d (Ok met) =
+    accepts (IsMeetProduct order.report order.output comments d met)
+meet_made order comments d (Err fault) = refuses (meet_fault_text order.input fault)
 
 -- The plan for a drawing and its lines as they are drawn: these are made to meet, with the starts
 -- and ends of the drawing.
-abbrev pub meet_kept : MeetOrder → LinesRead → Plan
-meet_kept order read = meet_made order read.drawing
-    (met_of order.rule read.drawn.drawing read.drawing.starts read.drawing.ends)
+abbrev pub meet_kept : MeetOrder → TextRead → Plan
+meet_kept order text = meet_made order text.comments text.lines.drawing
+    (met_of order.rule text.lines.drawn.drawing text.lines.drawing.starts text.lines.drawing.ends)
 
 -- The plan for a drawing and its lines, if no line would be cut before they are made to meet.
-abbrev pub meet_lines : MeetOrder → LinesRead → Plan
-meet_lines order read = plan_if_kept order.input read.drawing (meet_kept order read)
+abbrev pub meet_lines : MeetOrder → TextRead → Plan
+meet_lines order text = plan_if_kept order.input text.lines.drawing (meet_kept order text)
 
 -- The plan for the result of reading the drawing: a fault is refused.
-abbrev pub meet_read : MeetOrder → Result LinesRead DrawFault → Plan
+abbrev pub meet_read : MeetOrder → Result TextRead DrawFault → Plan
 meet_read order = plan_after_reading order.input (meet_lines order)
 
 -- The plan: read the drawing file, then write the drawing whose lines meet.
 abbrev pub meet_plan : MeetOrder → Plan
-meet_plan order = reads order.input (λ bytes. meet_read order (lines_read bytes))
+meet_plan order = reads order.input (λ bytes. meet_read order (text_read bytes))

@@ -5,8 +5,7 @@ use Rattle.spaced_lines.specs.declared.spaced_drawing.SpacedDrawing.{SpacedDrawi
 use Rattle.spaced_lines.specs.declared.spacing_rule.SpacingLimits.{SpacingLimits}
 use Rattle.spaced_lines.specs.SpacedDrawings.{space_of}
 use Rattle.drawing_text.specs.declared.draw_fault.DrawFault.{DrawFault}
-use Rattle.drawing_text.specs.declared.lines_read.LinesRead.{LinesRead}
-use Rattle.drawing_text.specs.DrawingLines.{lines_read}
+use Rattle.drawing_comments.specs.declared.text_comments.TextComments.{TextComments}
 use Rattle.line_graph.specs.declared.draw_kind.DrawKind.{DrawKind}
 use Rattle.line_graph.specs.declared.piece.Piece.{Piece}
 use Rattle.line_graph.specs.Drawings.{DrawingValue}
@@ -18,6 +17,8 @@ use Rattle.program_shell.specs.Products.{ProductValue}
 use Rattle.program_texts.specs.DrawingTexts.{draw_kind_text}
 use Rattle.drawing_commands.specs.FaultTexts.{plan_after_reading}
 use Rattle.drawing_commands.specs.LengthSpans.{span_of}
+use Rattle.drawing_commands.specs.declared.text_reading.TextRead.{TextRead}
+use Rattle.drawing_commands.specs.TextsRead.{text_read}
 use Rattle.drawing_commands.specs.VersionOne.{plan_if_kept}
 use Rattle.drawing_commands.specs.WholeProducts.{IsWholeProduct}
 use Rattle.drawing_commands.specs.SpaceTexts.{count_change_text, piece_count_text, span_change_text}
@@ -41,33 +42,36 @@ space_report before after pieces =
 
 -- The product of `space`: the spaced lines, written whole, and a report on them and on the lines
 -- before. The pieces are those that are sewn.
-pub record IsSpaceProduct (output : List ℕ) (before : DrawingValue) (spaced : SpacedDrawing)
-    (product : ProductValue) : Type 0 where
+pub record IsSpaceProduct (output : List ℕ) (comments : TextComments) (before : DrawingValue)
+    (spaced : SpacedDrawing) (product : ProductValue) : Type 0 where
   pub pieces : List Piece
   pub pieces_are : ArePiecesOf spaced.joined pieces
-  pub written : IsWholeProduct output spaced.drawn spaced.joined
+  pub written : IsWholeProduct output comments spaced.drawn spaced.joined
       (space_report before spaced.drawn (length pieces)) product
 
 -- The plan for lines as they are drawn and their spaced drawing: it is accepted, and a fault is
 -- refused.
-abbrev pub space_made : SpaceOrder → DrawingValue → Result SpacedDrawing DrawKind → Plan
-space_made order drawn (Ok spaced) = accepts (IsSpaceProduct order.output drawn spaced)
-space_made order drawn (Err why) = refuses (text_about order.input (draw_kind_text why))
+abbrev pub space_made : SpaceOrder → TextComments → DrawingValue → Result SpacedDrawing DrawKind
+    → Plan
+space_made order comments drawn (Ok spaced) =
+    accepts (IsSpaceProduct order.output comments drawn spaced)
+space_made order comments drawn (Err why) = refuses (text_about order.input (draw_kind_text why))
 
 -- The plan for a drawing and its lines as they are drawn: these are spaced, with the starts and
 -- ends of the drawing.
-abbrev pub space_kept : SpaceOrder → LinesRead → Plan
-space_kept order read = space_made order read.drawn.drawing
-    (space_of order.limits read.drawn.drawing read.drawing.starts read.drawing.ends)
+abbrev pub space_kept : SpaceOrder → TextRead → Plan
+space_kept order text = space_made order text.comments text.lines.drawn.drawing
+    (space_of order.limits text.lines.drawn.drawing text.lines.drawing.starts
+    text.lines.drawing.ends)
 
 -- The plan for a drawing and its lines, if no line is cut.
-abbrev pub space_lines : SpaceOrder → LinesRead → Plan
-space_lines order read = plan_if_kept order.input read.drawing (space_kept order read)
+abbrev pub space_lines : SpaceOrder → TextRead → Plan
+space_lines order text = plan_if_kept order.input text.lines.drawing (space_kept order text)
 
 -- The plan for the result of reading the drawing: a fault is refused.
-abbrev pub space_read : SpaceOrder → Result LinesRead DrawFault → Plan
+abbrev pub space_read : SpaceOrder → Result TextRead DrawFault → Plan
 space_read order = plan_after_reading order.input (space_lines order)
 
 -- The plan of `space`: read the drawing file, then write the spaced drawing.
 abbrev pub space_plan : SpaceOrder → Plan
-space_plan order = reads order.input (λ bytes. space_read order (lines_read bytes))
+space_plan order = reads order.input (λ bytes. space_read order (text_read bytes))

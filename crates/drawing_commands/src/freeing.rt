@@ -1,6 +1,7 @@
 ghost use Rattle.command_words.specs.ValidNames.{AreFileNames};
 ghost use Rattle.drawing_commands.specs.FreeOrders.{IsFreeProduct, free_lines, free_made, free_order, free_plan};
 ghost use Rattle.drawing_commands.specs.WholeProducts.{IsWhole};
+ghost use Rattle.drawing_comments.specs.CommentLaws.{AreTextComments};
 ghost use Rattle.free_ends.specs.FreedDrawings.{lines_joined};
 ghost use Rattle.line_graph.specs.EndOrders.{HasOrderedEnds};
 ghost use Rattle.program_shell.specs.Products.{product_value};
@@ -9,13 +10,14 @@ ghost use Rattle.std.specs.Prelude.{IfOk};
 
 use crate::free_texts::describe_free;
 use crate::space_texts::space_failure;
+use crate::text_reading::{TextRead, text_in};
 use crate::version_one::{is_kept, not_kept};
 use crate::whole_files::whole_product;
 use command_words::FileNames;
 use design_model::Memory;
+use drawing_comments::TextComments;
 use free_ends::{JoinedLines, free, join_lines};
 use outside_io::Store;
-use program_inputs::{LinesRead, lines_in};
 use program_shell::{Made, Product};
 use std::alloc::Global;
 
@@ -29,34 +31,38 @@ pub(crate) fn free_file<'a, S: Store>(
     ensures { RunsPlan (free_plan (free_order names.entry.input.now names.entry.output.now))
         (S.view store.old) (S.view store.new) result }
 {
-    let read = lines_in(alloc, store, names.input)?;
-    free_if_kept(alloc, names, &read)
+    let text = text_in(alloc, store, names.input)?;
+    free_if_kept(alloc, names, &text)
 }
 
 /// Frees lines as they are drawn, if none of them is cut.
-fn free_if_kept<'a>(alloc: Global, names: FileNames<'a>, read: &LinesRead) -> Made<'a>
+fn free_if_kept<'a>(alloc: Global, names: FileNames<'a>, text: &TextRead) -> Made<'a>
     requires names { AreFileNames names }
-    requires ordered { HasOrderedEnds read.now.drawing }
+    requires ordered { HasOrderedEnds text.now.lines.drawing }
+    requires comments { AreTextComments text.now.comments }
     ensures { RunsPurePlan (free_lines (free_order names.entry.input.now names.entry.output.now)
-        read.now) result }
+        text.now) result }
 {
-    if !is_kept(alloc, &read.drawing)? {
+    if !is_kept(alloc, &text.lines.drawing)? {
         return Err(not_kept(alloc, names.input));
     }
-    free_lines_of(alloc, names, read)
+    free_lines_of(alloc, names, text)
 }
 
 /// Frees lines as they are drawn, with the starts and ends of their drawing.
-fn free_lines_of<'a>(alloc: Global, names: FileNames<'a>, read: &LinesRead) -> Made<'a>
+fn free_lines_of<'a>(alloc: Global, names: FileNames<'a>, text: &TextRead) -> Made<'a>
     requires names { AreFileNames names }
-    requires ordered { HasOrderedEnds read.now.drawing }
+    requires ordered { HasOrderedEnds text.now.lines.drawing }
+    requires comments { AreTextComments text.now.comments }
     ensures { RunsPurePlan (free_made (free_order names.entry.input.now names.entry.output.now)
-        (lines_joined read.now.drawn.drawing read.now.drawing.starts read.now.drawing.ends)) result }
+        text.now.comments (lines_joined text.now.lines.drawn.drawing text.now.lines.drawing.starts
+        text.now.lines.drawing.ends)) result }
 {
+    let read = &text.lines;
     let drawn = &read.drawn.drawing;
     match join_lines(alloc, drawn, read.drawing.starts(), read.drawing.ends()) {
         Ok(lines) => {
-            let product = free_product(alloc, names.output, &lines)?;
+            let product = free_product(alloc, names.output, &text.comments, &lines)?;
             Ok(product)
         }
         Err(why) => Err(space_failure(alloc, names.input, why)),
@@ -66,14 +72,16 @@ fn free_lines_of<'a>(alloc: Global, names: FileNames<'a>, read: &LinesRead) -> M
 fn free_product<'a>(
     alloc: Global,
     output: &'a str,
+    comments: &TextComments,
     lines: &JoinedLines,
 ) -> Result<Product<'a>, Memory>
-    requires { IsWhole lines.now.drawn lines.now.joined }
+    requires whole { IsWhole lines.now.drawn lines.now.joined }
+    requires comments { AreTextComments comments.now }
     ensures { IfOk result (λ product.
-        IsFreeProduct output.now lines.now.drawn lines.now.joined (product_value product)) }
+        IsFreeProduct output.now comments.now lines.now.drawn lines.now.joined (product_value product)) }
 {
     let freed = free(alloc, &lines.drawn, &lines.joined)?;
     let report = describe_free(alloc, freed.pieces.as_slice(), freed.found.as_slice())?;
-    let product = whole_product(alloc, output, &lines.drawn, &freed.joined, report)?;
+    let product = whole_product(alloc, output, comments, &lines.drawn, &freed.joined, report)?;
     Ok(product)
 }

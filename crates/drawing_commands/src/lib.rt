@@ -21,6 +21,7 @@ mod running;
 mod space_texts;
 mod space_words;
 mod spacing;
+mod text_reading;
 mod usage;
 mod version_one;
 mod whole_files;

@@ -2,20 +2,22 @@ ghost use Rattle.command_words.specs.ValidNames.{AreFileNames};
 ghost use Rattle.drawing_commands.specs.MeetOrders.{IsMeetProduct, cross_order, meet_kept, meet_lines, meet_plan, meet_report, snap_order};
 ghost use Rattle.drawing_commands.specs.WholeProducts.{IsWhole};
 ghost use Rattle.drawing_commands.specs.declared.requests.TheConstants.{MAX_GAP};
+ghost use Rattle.drawing_comments.specs.CommentLaws.{AreTextComments};
 ghost use Rattle.line_graph.specs.EndOrders.{HasOrderedEnds};
 ghost use Rattle.program_shell.specs.Products.{product_value};
 ghost use Rattle.program_shell.specs.StepOutcomes.{RunsPlan, RunsPurePlan};
 ghost use Rattle.std.specs.Prelude.{◌≡◌, ◌≤◌, IfOk};
 
 use crate::meet_texts::{describe_cross, describe_snap, meet_failure};
+use crate::text_reading::{TextRead, text_in};
 use crate::version_one::{is_kept, not_kept};
 use crate::whole_files::whole_product;
 use command_words::FileNames;
 use design_model::{Bytes, Memory};
+use drawing_comments::{TextComments, spread_comments};
 use line_graph::{Drawing, pieces};
 use met_drawings::{MeetingCounts, MeetingRule, MetDrawing, meet};
 use outside_io::Store;
-use program_inputs::{LinesRead, lines_in};
 use program_shell::{Made, Product};
 use std::alloc::Global;
 
@@ -40,13 +42,13 @@ pub(crate) fn snap_file<'a, S: Store>(
         (snap_order gap keeps_copies names.entry.input.now names.entry.output.now))
         (S.view store.old) (S.view store.new) result }
 {
-    let read = lines_in(alloc, store, names.input)?;
+    let text = text_in(alloc, store, names.input)?;
     let rule = MeetingRule {
         gap,
         lists_crossings: false,
         keeps_copies,
     };
-    meet_if_kept(alloc, rule, MeetReport::Snap, names, &read)
+    meet_if_kept(alloc, rule, MeetReport::Snap, names, &text)
 }
 
 /// Makes lines of a drawing list where they cross, and writes them whole, with its starts and ends.
@@ -61,13 +63,13 @@ pub(crate) fn cross_file<'a, S: Store>(
         (cross_order keeps_copies names.entry.input.now names.entry.output.now))
         (S.view store.old) (S.view store.new) result }
 {
-    let read = lines_in(alloc, store, names.input)?;
+    let text = text_in(alloc, store, names.input)?;
     let rule = MeetingRule {
         gap: 0,
         lists_crossings: true,
         keeps_copies,
     };
-    meet_if_kept(alloc, rule, MeetReport::Cross, names, &read)
+    meet_if_kept(alloc, rule, MeetReport::Cross, names, &text)
 }
 
 /// Makes the lines of a drawing meet, if none of them would be cut before.
@@ -76,22 +78,23 @@ fn meet_if_kept<'a>(
     rule: MeetingRule,
     report: MeetReport,
     names: FileNames<'a>,
-    read: &LinesRead,
+    text: &TextRead,
 ) -> Made<'a>
     requires names { AreFileNames names }
-    requires ordered { HasOrderedEnds read.now.drawing }
+    requires ordered { HasOrderedEnds text.now.lines.drawing }
+    requires comments { AreTextComments text.now.comments }
     requires gap { rule.gap ≤ MAX_GAP }
     ensures { RunsPurePlan (meet_lines (record {
       rule = rule;
       report = report;
       input = names.entry.input.now;
       output = names.entry.output.now;
-    }) read.now) result }
+    }) text.now) result }
 {
-    if !is_kept(alloc, &read.drawing)? {
+    if !is_kept(alloc, &text.lines.drawing)? {
         return Err(not_kept(alloc, names.input));
     }
-    meet_lines_of(alloc, rule, report, names, read)
+    meet_lines_of(alloc, rule, report, names, text)
 }
 
 /// Makes the lines of a drawing meet as they are drawn, with its starts and ends.
@@ -100,18 +103,20 @@ fn meet_lines_of<'a>(
     rule: MeetingRule,
     report: MeetReport,
     names: FileNames<'a>,
-    read: &LinesRead,
+    text: &TextRead,
 ) -> Made<'a>
     requires names { AreFileNames names }
-    requires ordered { HasOrderedEnds read.now.drawing }
+    requires ordered { HasOrderedEnds text.now.lines.drawing }
+    requires comments { AreTextComments text.now.comments }
     requires gap { rule.gap ≤ MAX_GAP }
     ensures { RunsPurePlan (meet_kept (record {
       rule = rule;
       report = report;
       input = names.entry.input.now;
       output = names.entry.output.now;
-    }) read.now) result }
+    }) text.now) result }
 {
+    let read = &text.lines;
     let drawing = &read.drawing;
     match meet(
         alloc,
@@ -121,7 +126,7 @@ fn meet_lines_of<'a>(
         drawing.ends(),
     ) {
         Ok(met) => {
-            let product = meet_product(alloc, report, names.output, drawing, &met)?;
+            let product = meet_product(alloc, report, names.output, &text.comments, drawing, &met)?;
             Ok(product)
         }
         Err(fault) => Err(meet_failure(alloc, names.input, fault)),
@@ -132,17 +137,20 @@ fn meet_product<'a>(
     alloc: Global,
     report: MeetReport,
     output: &'a str,
+    comments: &TextComments,
     drawing: &Drawing,
     met: &MetDrawing,
 ) -> Result<Product<'a>, Memory>
-    requires { IsWhole met.now.drawn met.now.joined }
+    requires whole { IsWhole met.now.drawn met.now.joined }
+    requires comments { AreTextComments comments.now }
     ensures { IfOk result (λ product.
-        IsMeetProduct report output.now drawing.now met.now (product_value product)) }
+        IsMeetProduct report output.now comments.now drawing.now met.now (product_value product)) }
 {
     let before = pieces(alloc, drawing)?;
     let after = pieces(alloc, &met.joined)?;
     let text = described(alloc, report, met.counts, before.len(), after.len())?;
-    let product = whole_product(alloc, output, &met.drawn, &met.joined, text)?;
+    let moved = spread_comments(alloc, comments, met.parts.as_slice())?;
+    let product = whole_product(alloc, output, &moved, &met.drawn, &met.joined, text)?;
     Ok(product)
 }
 

@@ -1,19 +1,21 @@
 ghost use Rattle.command_words.specs.ValidNames.{AreFileNames};
 ghost use Rattle.drawing_commands.specs.SpaceOrders.{IsSpaceProduct, space_kept, space_lines, space_order, space_plan};
 ghost use Rattle.drawing_commands.specs.WholeProducts.{IsWhole};
+ghost use Rattle.drawing_comments.specs.CommentLaws.{AreTextComments};
 ghost use Rattle.line_graph.specs.EndOrders.{HasOrderedEnds};
 ghost use Rattle.program_shell.specs.Products.{product_value};
 ghost use Rattle.program_shell.specs.StepOutcomes.{RunsPlan, RunsPurePlan};
 ghost use Rattle.std.specs.Prelude.{IfOk};
 
 use crate::space_texts::{describe_space, space_failure};
+use crate::text_reading::{TextRead, text_in};
 use crate::version_one::{is_kept, not_kept};
 use crate::whole_files::whole_product;
 use command_words::FileNames;
 use design_model::Memory;
+use drawing_comments::TextComments;
 use line_graph::{Drawing, pieces};
 use outside_io::Store;
-use program_inputs::{LinesRead, lines_in};
 use program_shell::{Made, Product};
 use spaced_lines::{SpacedDrawing, SpacingLimits, space};
 use std::alloc::Global;
@@ -29,8 +31,8 @@ pub(crate) fn space_file<'a, S: Store>(
     ensures { RunsPlan (space_plan (space_order limits names.entry.input.now names.entry.output.now))
         (S.view store.old) (S.view store.new) result }
 {
-    let read = lines_in(alloc, store, names.input)?;
-    space_if_kept(alloc, limits, names, &read)
+    let text = text_in(alloc, store, names.input)?;
+    space_if_kept(alloc, limits, names, &text)
 }
 
 /// Spaces lines as they are drawn, if none of them is cut.
@@ -38,17 +40,18 @@ fn space_if_kept<'a>(
     alloc: Global,
     limits: SpacingLimits,
     names: FileNames<'a>,
-    read: &LinesRead,
+    text: &TextRead,
 ) -> Made<'a>
     requires names { AreFileNames names }
-    requires ordered { HasOrderedEnds read.now.drawing }
+    requires ordered { HasOrderedEnds text.now.lines.drawing }
+    requires comments { AreTextComments text.now.comments }
     ensures { RunsPurePlan (space_lines (space_order limits names.entry.input.now names.entry.output.now)
-        read.now) result }
+        text.now) result }
 {
-    if !is_kept(alloc, &read.drawing)? {
+    if !is_kept(alloc, &text.lines.drawing)? {
         return Err(not_kept(alloc, names.input));
     }
-    space_lines_of(alloc, limits, names, read)
+    space_lines_of(alloc, limits, names, text)
 }
 
 /// Spaces lines as they are drawn, with the starts and ends of their drawing.
@@ -56,13 +59,15 @@ fn space_lines_of<'a>(
     alloc: Global,
     limits: SpacingLimits,
     names: FileNames<'a>,
-    read: &LinesRead,
+    text: &TextRead,
 ) -> Made<'a>
     requires names { AreFileNames names }
-    requires ordered { HasOrderedEnds read.now.drawing }
+    requires ordered { HasOrderedEnds text.now.lines.drawing }
+    requires comments { AreTextComments text.now.comments }
     ensures { RunsPurePlan (space_kept (space_order limits names.entry.input.now names.entry.output.now)
-        read.now) result }
+        text.now) result }
 {
+    let read = &text.lines;
     let drawn = &read.drawn.drawing;
     match space(
         alloc,
@@ -72,7 +77,7 @@ fn space_lines_of<'a>(
         read.drawing.ends(),
     ) {
         Ok(spaced) => {
-            let product = space_product(alloc, names.output, drawn, &spaced)?;
+            let product = space_product(alloc, names.output, &text.comments, drawn, &spaced)?;
             Ok(product)
         }
         Err(why) => Err(space_failure(alloc, names.input, why)),
@@ -82,15 +87,24 @@ fn space_lines_of<'a>(
 fn space_product<'a>(
     alloc: Global,
     output: &'a str,
+    comments: &TextComments,
     before: &Drawing,
     spaced: &SpacedDrawing,
 ) -> Result<Product<'a>, Memory>
-    requires { IsWhole spaced.now.drawn spaced.now.joined }
+    requires whole { IsWhole spaced.now.drawn spaced.now.joined }
+    requires comments { AreTextComments comments.now }
     ensures { IfOk result (λ product.
-        IsSpaceProduct output.now before.now spaced.now (product_value product)) }
+        IsSpaceProduct output.now comments.now before.now spaced.now (product_value product)) }
 {
     let pieces = pieces(alloc, &spaced.joined)?;
     let report = describe_space(alloc, before, &spaced.drawn, pieces.len())?;
-    let product = whole_product(alloc, output, &spaced.drawn, &spaced.joined, report)?;
+    let product = whole_product(
+        alloc,
+        output,
+        comments,
+        &spaced.drawn,
+        &spaced.joined,
+        report,
+    )?;
     Ok(product)
 }

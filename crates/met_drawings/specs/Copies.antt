@@ -1,7 +1,7 @@
 -- Lines without copies of segments. A segment of a block that an earlier one has, in either
 -- direction, is left out, and its line is cut there. Of a line of which nothing is left there is no
 -- part.
-use Rattle.std.specs.Prelude.{ℕ, Bool, ◌&&◌, nat_le, true, List, [], ◌∷◌, ◌++◌, length, if◌then◌else◌}
+use Rattle.std.specs.Prelude.{ℕ, Bool, ◌&&◌, nat_le, true, List, [], ◌∷◌, ◌++◌, length, map, if◌then◌else◌}
 use Rattle.design_model.specs.declared.point.Point.{Point}
 use Rattle.line_sections.specs.Lines.{LineValue}
 use Rattle.met_drawings.specs.declared.passed_segments.PassedSegment.{PassedSegment}
@@ -49,6 +49,17 @@ abbrev pub uncopied_after : List PassedSegment → List LineValue → List LineV
 uncopied_after passed [] = []
 uncopied_after passed (line ∷ rest) = parts_of passed line.block line.points
     ++ uncopied_after (passed ++ passed_by line.block line.points) rest
+
+-- The number of lines that are left of each line, where some segments were passed before.
+abbrev pub counts_after : List PassedSegment → List LineValue → List ℕ
+counts_after passed [] = []
+counts_after passed (line ∷ rest) = length (parts_of passed line.block line.points)
+    ∷ counts_after (passed ++ passed_by line.block line.points) rest
+
+-- The number of lines that become of each line, unless copies are kept: then it is one.
+abbrev pub part_counts : (keeps_copies : Bool) → List LineValue → List ℕ
+part_counts keeps_copies lines =
+    if keeps_copies then map (λ line. 1) lines else counts_after [] lines
 
 -- Lines without the segments that copy an earlier one of their block.
 abbrev pub uncopied_lines : List LineValue → List LineValue

@@ -1,8 +1,8 @@
-ghost use Rattle.met_drawings.specs.Copies.{part_after, part_if, parts_from, parts_of, passed_by, passed_from, uncopied_lines};
-ghost use Rattle.std.specs.Prelude.{◌≡◌, ◌++◌, ◌∷◌, [], IfOk, OnOk, true};
+ghost use Rattle.met_drawings.specs.Copies.{counts_after, part_after, part_counts as counts_of, part_if, parts_from, parts_of, passed_by, passed_from, uncopied_lines};
+ghost use Rattle.std.specs.Prelude.{◌≡◌, ◌++◌, ◌∷◌, [], IfOk, OnOk, map, true};
 
 use crate::passed_segments::{PassedSegment, PassedSegments};
-use design_model::{Memory, Point, Points};
+use design_model::{Items, Memory, Point, Points};
 use line_sections::Line;
 use std::alloc::Global;
 
@@ -19,6 +19,49 @@ pub(crate) fn without_copies(alloc: Global, lines: &[Line]) -> Result<Vec<Line>,
         rest = after;
     }
     Ok(left)
+}
+
+/// Returns the number of lines that become of each line, unless copies are kept: then it is one.
+pub(crate) fn part_counts(
+    alloc: Global,
+    keeps_copies: bool,
+    lines: &[Line],
+) -> Result<Items<usize>, Memory>
+    ensures { IfOk result (λ counts. counts ≡ counts_of keeps_copies lines.now) }
+{
+    if keeps_copies {
+        let ones = ones(alloc, lines)?;
+        return Ok(ones);
+    }
+    let counts = counts_left(alloc, lines)?;
+    Ok(counts)
+}
+
+fn ones(alloc: Global, lines: &[Line]) -> Result<Items<usize>, Memory>
+    ensures { IfOk result (λ ones. ones ≡ map (λ line. 1) lines.now) }
+{
+    let mut ones = Items::new(alloc);
+    let mut rest = lines;
+    while let [_, after @ ..] = rest {
+        ones.push(1)?;
+        rest = after;
+    }
+    Ok(ones)
+}
+
+fn counts_left(alloc: Global, lines: &[Line]) -> Result<Items<usize>, Memory>
+    ensures { IfOk result (λ counts. counts ≡ counts_after [] lines.now) }
+{
+    let mut counts = Items::new(alloc);
+    let mut passed = PassedSegments::new(alloc);
+    let mut rest = lines;
+    while let [line, after @ ..] = rest {
+        let mut left = Vec::new(alloc);
+        passed = put_parts(alloc, line, passed, &mut left)?;
+        counts.push(left.as_slice().len())?;
+        rest = after;
+    }
+    Ok(counts)
 }
 
 /// Adds the lines that are left of a line. Returns the segments passed with it.

@@ -5,6 +5,7 @@ ghost use Rattle.met_drawings.specs.MetDrawings.{lines_met, meet_is_out_of_memor
 ghost use Rattle.meeting_rounds.specs.declared.rounds.TheConstants.{MAX_ROUND_GAP};
 ghost use Rattle.std.specs.Prelude.{◌≡◌, ◌≤◌, IfOk, Ok, map};
 
+use crate::copies::part_counts;
 use crate::listed_meetings::{MeetingRule, first_vanished, kept, settled_drawn};
 use crate::meet_fault::MeetFault;
 use crate::meeting_counts::{MeetingCounts, counts};
@@ -20,6 +21,8 @@ use std::alloc::Global;
 pub struct MetDrawing {
     pub drawn: Drawing,
     pub joined: Drawing,
+    /// The number of lines that each line became.
+    pub parts: Items<usize>,
     pub counts: MeetingCounts,
 }
 
@@ -75,6 +78,7 @@ fn met_by(
         worked.starts.as_slice(),
         worked.ends.as_slice(),
     )?;
+    let parts = part_counts(alloc, rule.keeps_copies, listing.as_slice())?;
     let counts = counts(
         alloc,
         rule,
@@ -86,6 +90,7 @@ fn met_by(
     Ok(MetDrawing {
         drawn,
         joined,
+        parts,
         counts,
     })
 }

@@ -22,6 +22,10 @@ pub const FILES: &[(&str, &str)] = &[
         "redwork 2\nstep 25\ncolor 1\nline 0 0 40 0\nline 40 0 0 0 0 30\n",
     ),
     (
+        "said.rw",
+        "redwork 2\nstep 25\ncolor 1\n# first\nline 0 0 20 0 40 0 60 0\n# second\nline 0 30 20 0 40 0 60 30\n",
+    ),
+    (
         "starts.rw",
         "redwork 3\nstep 25\ncolor 1\nline 0 0 100 50\nline 30 90 40 0\nstart 0 0\nstart 30 90\n",
     ),
@@ -54,6 +58,12 @@ pub const RUNS: &[Run] = &[
     done!("cross cross.rw out.rw" =>
         "crossings 1 listed 2 dropped 0 left 0 pieces 2 to 1\n",
         "redwork 2\nstep 20\ncolor 1\nline 0 0 8 0 16 0\nline 8 -5 8 0 8 5\n"),
+    done!("cross said.rw out.rw" =>
+        "crossings 0 listed 0 dropped 1 left 0 pieces 1 to 1\n",
+        "redwork 2\nstep 25\ncolor 1\n# first\nline 0 0 20 0 40 0 60 0\n# second\nline 0 30 20 0\nline 40 0 60 30\n"),
+    done!("cross said.rw out.rw --keep" =>
+        "crossings 0 listed 0 dropped 0 left 0 pieces 1 to 1\n",
+        "redwork 2\nstep 25\ncolor 1\n# first\nline 0 0 20 0 40 0 60 0\n# second\nline 0 30 20 0 40 0 60 30\n"),
     refused!("cross starts.rw out.rw" => "stitch_drawing: starts.rw: start or end repeated\n"),
     refused!("cross bad.rw out.rw" => "stitch_drawing: bad.rw: line 3: too few points\n"),
     faulted!("cross none.rw out.rw" => "stitch_drawing: cannot read none.rw\n"),

@@ -3,7 +3,7 @@ use super::table_runs::Run;
 use crate::{done, faulted, misused, refused};
 
 /// A star of four lines beside a closed line, pieces with and without a start or an end, lines of version 1 that meet
-/// inside or at their ends, and texts with faults. The best ends of the star are the tips of two of its longest lines,
+/// inside or at their ends, comments, and texts with faults. The best ends of the star are the tips of two of its longest lines,
 /// of 3 and of 2 steps, which then are sewn once.
 pub const FILES: &[(&str, &str)] = &[
     (
@@ -26,6 +26,10 @@ pub const FILES: &[(&str, &str)] = &[
         "path.rw",
         "redwork 1\nstep 20\ncolor 1\nline 0 0 8 0\nline 8 0 8 5\n",
     ),
+    (
+        "said.rw",
+        "redwork 2\nstep 10\n# red\ncolor 1\n# a\nline 0 0 30 0\n# b\nline 30 0 30 20\n# blue\ncolor 2\n# c\nline 0 0 30 0 30 30 0 0\n",
+    ),
     ("bad.rw", "redwork 2\ncolor 1\nline 0 0 40\n"),
     (
         "astray.rw",
@@ -46,6 +50,9 @@ pub const RUNS: &[Run] = &[
     done!("free path.rw out.rw" =>
         "block 1 piece 1 start 8 5 end 0 0 penetrations 5 to 3\npenetrations 5 to 3 pieces 1\n",
         "redwork 3\nstep 20\ncolor 1\nline 0 0 8 0\nline 8 0 8 5\nstart 8 5\nend 0 0\n"),
+    done!("free said.rw out.rw" =>
+        "block 1 piece 1 start 30 20 end 0 0 penetrations 11 to 6\npenetrations 21 to 16 pieces 2\n",
+        "redwork 3\nstep 10\n# red\ncolor 1\n# a\nline 0 0 30 0\n# b\nline 30 0 30 20\nstart 30 20\nend 0 0\n# blue\ncolor 2\n# c\nline 0 0 30 0 30 30 0 0\n"),
     refused!("free one.rw out.rw" => "stitch_drawing: one.rw: redwork 1 can't be kept: migrate it first\n"),
     refused!("free bad.rw out.rw" => "stitch_drawing: bad.rw: line 3: too few points\n"),
     refused!("free astray.rw out.rw" => "stitch_drawing: astray.rw: line 4: not a junction\n"),

@@ -9,7 +9,7 @@ const SNAPPED_ENDS: &str =
     "redwork 3\nstep 10\ncolor 1\nline 0 0 41 1\nline 41 1 60 20\nstart 41 1\nend 0 0\n";
 
 /// Ends and inner points that nearly meet lines, lines that nearly lie on each other, lines of two blocks, lines of
-/// version 1 that meet inside, and what is refused.
+/// version 1 that meet inside, comments of lines that are cut or left out, and what is refused.
 pub const FILES: &[(&str, &str)] = &[
     (
         "loose.rw",
@@ -48,6 +48,10 @@ pub const FILES: &[(&str, &str)] = &[
     (
         "five.rw",
         "redwork 2\nstep 25\ncolor 1\nline 0 0 80 80\nline 3 0 83 80\nline 6 0 86 80\nline 9 0 89 80\nline 12 0 92 80\n",
+    ),
+    (
+        "said.rw",
+        "redwork 2\nstep 25\n# red\ncolor 1\n# long\nline 0 0 100 0\n# over it\nline 60 0 160 0 160 40\n# again\nline 0 0 60 0\n# apart\nline 0 90 40 90\n",
     ),
     (
         "pair.rw",
@@ -109,6 +113,9 @@ pub const RUNS: &[Run] = &[
     done!("snap 2 pair.rw out.rw --keep" =>
         "moved 2 listed 0 dropped 0 left 0 pieces 2 to 1\n",
         "redwork 2\nstep 25\ncolor 1\nline 0 1 40 1\nline 40 1 0 1\n"),
+    done!("snap 0 said.rw out.rw" =>
+        "moved 0 listed 2 dropped 2 left 0 pieces 2 to 2\n",
+        "redwork 2\nstep 25\n# red\ncolor 1\n# long\nline 0 0 60 0 100 0\n# over it\nline 100 0 160 0 160 40\n# apart\nline 0 90 40 90\n"),
     refused!("snap 3 double.rw out.rw" =>
         "stitch_drawing: double.rw: start or end repeated\n"),
     refused!("snap 0 copied.rw out.rw" => "stitch_drawing: copied.rw: not a junction\n"),

@@ -3,7 +3,7 @@ use super::table_runs::Run;
 use crate::{done, faulted, misused, refused};
 
 /// Points 4 apart on a line with stitches of 10, the same line spaced, points beside a stitch by 4 and by 3 tenths
-/// of a step, lines that meet inside, lines of version 1 that meet inside or at their ends, texts with faults, and curves of close points: a square of
+/// of a step, lines that meet inside, lines of version 1 that meet inside or at their ends, comments, texts with faults, and curves of close points: a square of
 /// 103 that begins in the middle of a side, circles of 8 and 20 mm with points 5 apart, and one of 2 mm with points 2 apart.
 pub const FILES: &[(&str, &str)] = &[
     (
@@ -25,6 +25,10 @@ pub const FILES: &[(&str, &str)] = &[
     (
         "one.rw",
         "redwork 1\nstep 20\ncolor 1\nline 0 0 8 0 16 0\nline 8 0 8 5\n",
+    ),
+    (
+        "said.rw",
+        "# top\r\nredwork 2\r\n#made by hand\r\nstep 10\r\n# red\r\ncolor 1\r\n\r\n  # a leaf\r\n# and its stem\r\nline 0 0 4 0 8 0 12 0\r\nline 0 50 20 50\r\n# a petal\r\nline 0 90 9 90\r\n# the end\r\n",
     ),
     (
         "path.rw",
@@ -67,6 +71,9 @@ pub const RUNS: &[Run] = &[
         "points 10 to 7 stitches 8 to 5 shortest 5 to 10 longest 39 to 39 pieces 2\n",
         "redwork 3\nname K\nstep 20\ncolor 5\nline 0 0 12 1 30 0\nline 12 1 12 40\nstart 0 0\nend 12 40\ncolor 7\nline 0 9 10 9\n"),
     refused!("space one.rw out.rw" => "stitch_drawing: one.rw: redwork 1 can't be kept: migrate it first\n"),
+    done!("space said.rw out.rw" =>
+        "points 8 to 7 stitches 6 to 5 shortest 4 to 4 longest 20 to 20 pieces 3\n",
+        "# top\n#made by hand\nredwork 2\nstep 10\n# red\ncolor 1\n  # a leaf\n# and its stem\nline 0 0 4 0 12 0\nline 0 50 20 50\n# a petal\nline 0 90 9 90\n# the end\n"),
     done!("space path.rw out.rw" =>
         "points 4 to 4 stitches 2 to 2 shortest 5 to 5 longest 8 to 8 pieces 1\n",
         "redwork 2\nstep 20\ncolor 1\nline 0 0 8 0\nline 8 0 8 5\n"),

@@ -4,13 +4,13 @@ use Rattle.drawing_commands.proofs.SpaceLemmas.{space_ordered}
 use Rattle.drawing_commands.proofs.freeing.free_lines_of.Goals as goal
 
 pub returns-in-Err : goal.returns-in-Err
-returns-in-Err c = fault_refused draw_is_out_of_memory _ (free_made (free_order c.args.names.input.now c.args.names.output.now)) _ _ _
+returns-in-Err c = fault_refused draw_is_out_of_memory _ (free_made (free_order c.args.names.input.now c.args.names.output.now) c.args.text.now.comments) _ _ _
     (λ why is. is) (rw (c.starts.ensures, c.ends.ensures) at c.in-Err.ensures.answer) c.space_failure.ensures
 
-pub free_product-requires : goal.free_product-requires
-free_product-requires c = record {
+pub free_product-requires-clause-whole : goal.free_product-requires-clause-whole
+free_product-requires-clause-whole c = record {
   whole = search rules;
-  ordered = space_ordered c.args.read.now.drawing _ c.requires.ordered (rw c.starts.ensures at c.in-Ok.ensures.starts)
+  ordered = space_ordered c.args.text.now.lines.drawing _ c.requires.ordered (rw c.starts.ensures at c.in-Ok.ensures.starts)
       (rw c.ends.ensures at c.in-Ok.ensures.ends);
   no_ends = search rules;
 }

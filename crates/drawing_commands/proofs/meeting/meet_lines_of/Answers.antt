@@ -10,13 +10,13 @@ returns-in-Err c = fault_refused meet_is_out_of_memory _
       report = c.args.report;
       input = c.args.names.input.now;
       output = c.args.names.output.now;
-    }) c.args.read.now.drawing) _ _ _
+    }) c.args.text.now.comments c.args.text.now.lines.drawing) _ _ _
     (λ why is. is) (rw (c.starts.ensures, c.ends.ensures) at c.in-Err.ensures.answer) c.meet_failure.ensures
 
-pub meet_product-requires : goal.meet_product-requires
-meet_product-requires c = record {
+pub meet_product-requires-clause-whole : goal.meet_product-requires-clause-whole
+meet_product-requires-clause-whole c = record {
   whole = search rules;
-  ordered = meet_ordered c.args.read.now.drawing _ c.requires.ordered (rw c.starts.ensures at c.in-Ok.ensures.starts)
+  ordered = meet_ordered c.args.text.now.lines.drawing _ c.requires.ordered (rw c.starts.ensures at c.in-Ok.ensures.starts)
       (rw c.ends.ensures at c.in-Ok.ensures.ends);
   no_ends = search rules;
 }

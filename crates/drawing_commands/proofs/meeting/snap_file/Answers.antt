@@ -4,4 +4,4 @@ use Rattle.drawing_commands.proofs.meeting.snap_file.Goals as goal
 pub returns : goal.returns
 returns g c = settles_taken _ _
     (meet_read (snap_order c.args.gap c.args.keeps_copies c.args.names.input.now c.args.names.output.now)) _ _ _ _
-    c.in_ok-read.ensures.takes c.meet_if_kept.ensures
+    c.in_ok-text.ensures.takes c.meet_if_kept.ensures

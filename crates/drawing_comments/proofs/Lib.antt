@@ -1,0 +1,4 @@
+pub mod SpokenLemmas
+pub mod CommentLemmas
+pub mod MovedLemmas
+mod CommentFacts

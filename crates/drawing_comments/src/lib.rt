@@ -1,0 +1,17 @@
+//! The comments of a drawing text: which block or line each belongs to, and a text with comments before its lines.
+#![tactic(auto)]
+
+mod finding;
+mod marks;
+mod moving;
+mod text_comments;
+mod theorems;
+mod writing;
+
+pub use finding::find_comments;
+pub use moving::spread_comments;
+pub use text_comments::TextComments;
+pub use theorems::{
+    comments_keep_lines, found_are_comments, parts_keep_comments, spoken_lines_decide,
+};
+pub use writing::put_comments;
