@@ -67,20 +67,24 @@ order_sound (freeing order) = parses_sound (order.output ∷ []) order.input tex
     made c (Ok lines) = accepts_sound (order.output ∷ []) (IsFreeProduct order.output c lines.drawn lines.joined)
         (λ product is. named product _ is.written.made)
     made c (Err kind) = refuses_sound (order.output ∷ []) _
-order_sound (nearing order) = parses_sound (order.output ∷ []) order.input drawing_of (near_read order)
-    (λ d. kept_sound (order.output ∷ []) order.input d _ (made (drawn_with d d.lines d.starts)))
+order_sound (nearing order) = parses_sound (order.output ∷ []) order.input text_read (near_read order)
+    (λ text. kept_sound (order.output ∷ []) order.input text.lines.drawing _ (made text.comments
+    (drawn_with text.lines.drawing text.lines.drawing.lines text.lines.drawing.starts)))
     (λ fault. refuses_sound (order.output ∷ []) _)
   where
-    made : (said : Result DrawingValue DrawKind) → IsSoundPlan (order.output ∷ []) (near_made order said)
-    made (Ok before) = accepts_sound (order.output ∷ []) (IsNearProduct order.output before) (λ product is. named product _ is.made)
-    made (Err kind) = refuses_sound (order.output ∷ []) _
-order_sound (editing order) = parses_sound (order.output ∷ []) order.input drawing_of (drawing_edit_read order)
-    (λ d. kept_sound (order.output ∷ []) order.input d _ (made (edits_applied 1 order.edits d)))
+    made : (c : TextComments) (said : Result DrawingValue DrawKind) → IsSoundPlan (order.output ∷ []) (near_made order c said)
+    made c (Ok before) = accepts_sound (order.output ∷ []) (IsNearProduct order.output c before)
+        (λ product is. named product _ is.written.made)
+    made c (Err kind) = refuses_sound (order.output ∷ []) _
+order_sound (editing order) = parses_sound (order.output ∷ []) order.input text_read (drawing_edit_read order)
+    (λ text. kept_sound (order.output ∷ []) order.input text.lines.drawing _
+    (made text.comments (edits_applied 1 order.edits text.lines.drawing)))
     (λ fault. refuses_sound (order.output ∷ []) _)
   where
-    made : (said : Result DrawingValue BadEdit) → IsSoundPlan (order.output ∷ []) (edited_plan order.input order.output said)
-    made (Ok d) = accepts_sound (order.output ∷ []) (IsEdited order.output d) (λ product is. named product _ is.made)
-    made (Err bad) = refuses_sound (order.output ∷ []) _
+    made : (c : TextComments) (said : Result DrawingValue BadEdit)
+        → IsSoundPlan (order.output ∷ []) (edited_plan order.input order.output c said)
+    made c (Ok d) = accepts_sound (order.output ∷ []) (IsEdited order.output c d) (λ product is. named product _ is.written.made)
+    made c (Err bad) = refuses_sound (order.output ∷ []) _
 order_sound (telling text) = accepts_sound [] _ (λ product is. named product _ is)
 
 -- The program is sound.

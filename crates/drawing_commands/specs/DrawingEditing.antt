@@ -1,24 +1,26 @@
 -- The command `edit`: a drawing is read, edited, and written with its lines cut where they meet.
 -- Edits are numbered from 1. Costs count steps.
-use Rattle.std.specs.Prelude.{◌≡◌, ℕ, ◌+◌, Bool, List, [], ◌∷◌, ◌++◌, Result, Ok, Err, codes, decimal, length}
+use Rattle.std.specs.Prelude.{ℕ, ◌+◌, Bool, List, [], ◌∷◌, ◌++◌, Result, Ok, Err, codes, decimal, length}
 use Rattle.drawing_edits.specs.declared.drawing_edit.DrawingEdit.{DrawingEdit}
 use Rattle.drawing_edits.specs.declared.edit_fault.EditFault.{EditFault}
 use Rattle.drawing_edits.specs.declared.edit_fault.EditFault.TheVariants as fault
 use Rattle.drawing_edits.specs.EditedDrawings.{edited_drawing}
 use Rattle.drawing_edits.specs.EditFaults.{edit_is_out_of_memory}
 use Rattle.drawing_text.specs.declared.draw_fault.DrawFault.{DrawFault}
-use Rattle.drawing_text.specs.DrawingText.{drawing_of}
-use Rattle.drawing_text.specs.EndTexts.{drawn_text}
+use Rattle.drawing_comments.specs.declared.text_comments.TextComments.{TextComments}
 use Rattle.line_graph.specs.Drawings.{DrawingValue}
 use Rattle.line_graph.specs.GrowingDrawings.{and_then, step_count}
 use Rattle.line_graph.specs.Pieces.{ArePieces}
 use Rattle.program_shell.specs.FileTexts.{text_at}
 use Rattle.program_shell.specs.Plans.{Plan, accepts, reads, refuses}
-use Rattle.program_shell.specs.Products.{ProductValue, one_file_product}
+use Rattle.program_shell.specs.Products.{ProductValue}
 use Rattle.program_texts.specs.DrawingTexts.{draw_kind_text}
 use Rattle.program_texts.specs.MigrationReports.{migrate_report}
 use Rattle.drawing_commands.specs.declared.bad_edit.BadEdit.{BadEdit}
 use Rattle.drawing_commands.specs.FaultTexts.{plan_after_reading}
+use Rattle.drawing_commands.specs.declared.text_reading.TextRead.{TextRead}
+use Rattle.drawing_commands.specs.CutProducts.{IsCutProduct}
+use Rattle.drawing_commands.specs.TextsRead.{text_read}
 use Rattle.drawing_commands.specs.VersionOne.{plan_if_kept}
 
 -- The order of `edit`: the drawing to read, the file to write, and the edits in order.
@@ -59,29 +61,29 @@ edit_fault_text fault.OtherBlock = codes "pieces in different blocks"
 abbrev pub bad_edit_text : List ℕ → BadEdit → List ℕ
 bad_edit_text name bad = text_at name (codes "edit") bad.number (edit_fault_text bad.fault)
 
--- The product of `edit`: the canonical text of the edited drawing, which is read as that drawing,
--- and a report with the number of lines, the number of pieces and the cost.
-pub record IsEdited (output : List ℕ) (d : DrawingValue) (product : ProductValue) : Type 0 where
+-- The product of `edit`: the edited drawing, written with its lines cut, and a report with the number
+-- of lines, the number of pieces and the cost.
+pub record IsEdited (output : List ℕ) (comments : TextComments) (d : DrawingValue)
+    (product : ProductValue) : Type 0 where
   pub pieces : List (List ℕ)
   pub pieces_are : ArePieces d pieces
-  pub again : drawing_of (drawn_text d) ≡ Ok d
-  pub made : product ≡ one_file_product output (drawn_text d)
-      (migrate_report (length d.lines) (length pieces) (step_count d.step d.lines))
+  pub written : IsCutProduct output comments d
+      (migrate_report (length d.lines) (length pieces) (step_count d.step d.lines)) product
 
 -- The plan for the result of the edits: a drawing is accepted, and a bad edit is refused.
-abbrev pub edited_plan : (input output : List ℕ) → Result DrawingValue BadEdit → Plan
-edited_plan input output (Ok d) = accepts (IsEdited output d)
-edited_plan input output (Err bad) = refuses (bad_edit_text input bad)
+abbrev pub edited_plan : (input output : List ℕ) → TextComments → Result DrawingValue BadEdit → Plan
+edited_plan input output comments (Ok d) = accepts (IsEdited output comments d)
+edited_plan input output comments (Err bad) = refuses (bad_edit_text input bad)
 
 -- The plan for a drawing: it is edited, if no line is cut but by an edit.
-abbrev pub edit_lines : DrawingEditOrder → DrawingValue → Plan
-edit_lines order d = plan_if_kept order.input d
-    (edited_plan order.input order.output (edits_applied 1 order.edits d))
+abbrev pub edit_lines : DrawingEditOrder → TextRead → Plan
+edit_lines order text = plan_if_kept order.input text.lines.drawing (edited_plan order.input
+    order.output text.comments (edits_applied 1 order.edits text.lines.drawing))
 
 -- The plan for the result of reading the drawing: it is edited, and a fault is refused.
-abbrev pub drawing_edit_read : DrawingEditOrder → Result DrawingValue DrawFault → Plan
+abbrev pub drawing_edit_read : DrawingEditOrder → Result TextRead DrawFault → Plan
 drawing_edit_read order = plan_after_reading order.input (edit_lines order)
 
 -- The plan of `edit`: read the drawing file, then write the edited drawing.
 abbrev pub drawing_edit_plan : DrawingEditOrder → Plan
-drawing_edit_plan order = reads order.input (λ bytes. drawing_edit_read order (drawing_of bytes))
+drawing_edit_plan order = reads order.input (λ bytes. drawing_edit_read order (text_read bytes))

@@ -8,6 +8,7 @@ pub mod Mistakes
 pub mod FaultTexts
 pub mod Looks
 pub mod WholeProducts
+pub mod CutProducts
 pub mod MeetTexts
 pub mod MeetOrders
 pub mod LengthSpans

@@ -1,20 +1,22 @@
 -- The command `near`: the pieces of each block are sewn in an order with little travel. The drawing
 -- is written with its lines cut where they meet.
-use Rattle.std.specs.Prelude.{◌≡◌, ℕ, List, ◌++◌, Result, Ok, Err, codes, decimal}
+use Rattle.std.specs.Prelude.{ℕ, List, ◌++◌, Result, Ok, Err, codes, decimal}
 use Rattle.design_model.specs.TextLines.{newline}
 use Rattle.drawing_text.specs.declared.draw_fault.DrawFault.{DrawFault}
-use Rattle.drawing_text.specs.DrawingText.{drawing_of}
-use Rattle.drawing_text.specs.EndTexts.{drawn_text}
+use Rattle.drawing_comments.specs.declared.text_comments.TextComments.{TextComments}
 use Rattle.line_graph.specs.declared.draw_kind.DrawKind.{DrawKind}
 use Rattle.line_graph.specs.Drawings.{DrawingValue}
 use Rattle.near_pieces.specs.declared.near_drawing.NearDrawing.{NearDrawing}
 use Rattle.near_pieces.specs.NearDrawings.{IsNear, drawn_with}
 use Rattle.program_shell.specs.FileTexts.{text_about}
 use Rattle.program_shell.specs.Plans.{Plan, accepts, reads, refuses}
-use Rattle.program_shell.specs.Products.{ProductValue, one_file_product}
+use Rattle.program_shell.specs.Products.{ProductValue}
 use Rattle.program_texts.specs.DrawingTexts.{draw_kind_text}
 use Rattle.drawing_commands.specs.FaultTexts.{plan_after_reading}
 use Rattle.look_reports.specs.PlaceTexts.{tenths_text}
+use Rattle.drawing_commands.specs.declared.text_reading.TextRead.{TextRead}
+use Rattle.drawing_commands.specs.CutProducts.{IsCutProduct}
+use Rattle.drawing_commands.specs.TextsRead.{text_read}
 use Rattle.drawing_commands.specs.VersionOne.{plan_if_kept}
 
 -- The order of `near`: the drawing to read, and the file to write.
@@ -32,29 +34,28 @@ abbrev pub near_report : (before after pieces : ℕ) → List ℕ
 near_report before after pieces = codes "travel " ++ (tenths_text before ++ (codes " to "
     ++ (tenths_text after ++ (codes " pieces " ++ (decimal pieces ++ newline)))))
 
--- The product of `near`: the canonical text of the near drawing, which is read as that drawing, and
--- the report.
-pub record IsNearProduct (output : List ℕ) (before : DrawingValue) (product : ProductValue)
-    : Type 0 where
+-- The product of `near`: the near drawing, written with its lines cut, and the report.
+pub record IsNearProduct (output : List ℕ) (comments : TextComments) (before : DrawingValue)
+    (product : ProductValue) : Type 0 where
   pub found : NearDrawing
   pub near : IsNear before found
-  pub again : drawing_of (drawn_text found.drawing) ≡ Ok found.drawing
-  pub made : product ≡ one_file_product output (drawn_text found.drawing)
-      (near_report found.before found.after found.pieces)
+  pub written : IsCutProduct output comments found.drawing
+      (near_report found.before found.after found.pieces) product
 
 -- The plan for a joined drawing: it is accepted, and a fault is refused.
-abbrev pub near_made : NearFileOrder → Result DrawingValue DrawKind → Plan
-near_made order (Ok before) = accepts (IsNearProduct order.output before)
-near_made order (Err why) = refuses (text_about order.input (draw_kind_text why))
+abbrev pub near_made : NearFileOrder → TextComments → Result DrawingValue DrawKind → Plan
+near_made order comments (Ok before) = accepts (IsNearProduct order.output comments before)
+near_made order comments (Err why) = refuses (text_about order.input (draw_kind_text why))
 
 -- The plan for a drawing: it is drawn again, if no line is cut.
-abbrev pub near_drawing : NearFileOrder → DrawingValue → Plan
-near_drawing order d = plan_if_kept order.input d (near_made order (drawn_with d d.lines d.starts))
+abbrev pub near_drawing : NearFileOrder → TextRead → Plan
+near_drawing order text = let d = text.lines.drawing in
+    plan_if_kept order.input d (near_made order text.comments (drawn_with d d.lines d.starts))
 
 -- The plan for the result of reading the drawing: a fault is refused.
-abbrev pub near_read : NearFileOrder → Result DrawingValue DrawFault → Plan
+abbrev pub near_read : NearFileOrder → Result TextRead DrawFault → Plan
 near_read order = plan_after_reading order.input (near_drawing order)
 
 -- The plan of `near`: read the drawing file, then write the near drawing.
 abbrev pub near_plan : NearFileOrder → Plan
-near_plan order = reads order.input (λ bytes. near_read order (drawing_of bytes))
+near_plan order = reads order.input (λ bytes. near_read order (text_read bytes))

@@ -1,3 +1,5 @@
+ghost use Rattle.drawing_comments.specs.CommentLaws.{AreTextComments};
+ghost use Rattle.drawing_commands.specs.CutProducts.{IsCutProduct};
 ghost use Rattle.drawing_commands.specs.DrawingEditing.{IsEdited};
 ghost use Rattle.drawing_text.specs.DrawingText.{drawing_of};
 ghost use Rattle.drawing_text.specs.EndTexts.{drawn_text};
@@ -10,6 +12,9 @@ ghost use Rattle.program_shell.specs.StepOutcomes.{RunsPurePlan};
 ghost use Rattle.std.specs.Prelude.{◌≡◌, Ok, IfOk, true};
 
 use design_model::{Bytes, Memory};
+use drawing_comments::{
+    TextComments, comments_keep_lines, comments_of_blocks, put_comments, spoken_lines_decide,
+};
 use drawing_text::print_drawn;
 use line_graph::{Drawing, joined_drawings_stay, pieces};
 use program_shell::{Made, Product, one_output};
@@ -17,34 +22,64 @@ use program_texts::describe_migration;
 use std::alloc::Global;
 
 /// Makes the file of an edited drawing, and the report on it.
-pub(crate) fn written<'a>(alloc: Global, output: &'a str, drawing: &Drawing) -> Made<'a>
+pub(crate) fn written<'a>(
+    alloc: Global,
+    output: &'a str,
+    comments: &TextComments,
+    drawing: &Drawing,
+) -> Made<'a>
+    requires comments { AreTextComments comments.now }
     requires output { IsFileName output.now }
     requires joined { is_joined drawing.now ≡ true }
     requires ordered { HasOrderedEnds drawing.now }
-    ensures { RunsPurePlan (accepts (IsEdited output.now drawing.now)) result }
+    ensures { RunsPurePlan (accepts (IsEdited output.now comments.now drawing.now)) result }
 {
-    let product = edited_product(alloc, output, drawing)?;
+    let product = edited_product(alloc, output, comments, drawing)?;
     Ok(product)
 }
 
 fn edited_product<'a>(
     alloc: Global,
     output: &'a str,
+    comments: &TextComments,
     drawing: &Drawing,
 ) -> Result<Product<'a>, Memory>
+    requires comments { AreTextComments comments.now }
     requires joined { is_joined drawing.now ≡ true }
     requires ordered { HasOrderedEnds drawing.now }
-    ensures { IfOk result (λ product. IsEdited output.now drawing.now (product_value product)) }
+    ensures { IfOk result (λ product. IsEdited output.now comments.now drawing.now (product_value product)) }
 {
     let pieces = pieces(alloc, drawing)?;
     let report = describe_migration(alloc, drawing, pieces.len())?;
-    let content = text_of(alloc, drawing)?;
+    let product = cut_product(alloc, output, comments, drawing, report)?;
+    Ok(product)
+}
+
+/// Returns the product that writes a joined drawing, with the comments of blocks.
+pub(crate) fn cut_product<'a>(
+    alloc: Global,
+    output: &'a str,
+    comments: &TextComments,
+    drawing: &Drawing,
+    report: Bytes,
+) -> Result<Product<'a>, Memory>
+    requires comments { AreTextComments comments.now }
+    requires joined { is_joined drawing.now ≡ true }
+    requires ordered { HasOrderedEnds drawing.now }
+    ensures { IfOk result (λ product.
+        IsCutProduct output.now comments.now drawing.now report (product_value product)) }
+{
+    comments_keep_lines();
+    spoken_lines_decide();
+    let plain = text_of(alloc, drawing)?;
+    let kept = comments_of_blocks(alloc, comments)?;
+    let content = put_comments(alloc, &kept, plain.as_slice())?;
     let product = one_output(alloc, output, content, report)?;
     Ok(product)
 }
 
 /// Returns the canonical text of a joined drawing, which is read as that drawing.
-pub(crate) fn text_of(alloc: Global, drawing: &Drawing) -> Result<Bytes, Memory>
+fn text_of(alloc: Global, drawing: &Drawing) -> Result<Bytes, Memory>
     requires joined { is_joined drawing.now ≡ true }
     requires ordered { HasOrderedEnds drawing.now }
     ensures value { IfOk result (λ text. text ≡ drawn_text drawing.now) }

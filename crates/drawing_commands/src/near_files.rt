@@ -1,5 +1,6 @@
 ghost use Rattle.command_words.specs.ValidNames.{AreFileNames};
 ghost use Rattle.drawing_commands.specs.NearFiles.{IsNearProduct, near_drawing, near_file_order, near_made, near_plan, near_report};
+ghost use Rattle.drawing_comments.specs.CommentLaws.{AreTextComments};
 ghost use Rattle.line_graph.specs.EndOrders.{HasOrderedEnds};
 ghost use Rattle.line_graph.specs.JoinedDrawings.{is_joined};
 ghost use Rattle.near_pieces.specs.NearDrawings.{drawn_with};
@@ -7,17 +8,17 @@ ghost use Rattle.program_shell.specs.Products.{product_value};
 ghost use Rattle.program_shell.specs.StepOutcomes.{RunsPlan, RunsPurePlan};
 ghost use Rattle.std.specs.Prelude.{◌≡◌, IfOk, string_bytes, true};
 
-use crate::edited_files::text_of;
+use crate::edited_files::cut_product;
 use crate::space_texts::space_failure;
+use crate::text_reading::{TextRead, text_in};
 use crate::version_one::{is_kept, not_kept};
 use command_words::FileNames;
 use design_model::Memory;
-use drawing_text::texts_order_ends;
+use drawing_comments::TextComments;
 use line_graph::Drawing;
 use near_pieces::{NearDrawing, draw_with, near};
 use outside_io::Store;
-use program_inputs::drawing_in;
-use program_shell::{Made, Product, one_output, text_bytes};
+use program_shell::{Made, Product, text_bytes};
 use std::alloc::Global;
 
 /// Sews the pieces of each block of a drawing in an order with little travel.
@@ -30,49 +31,57 @@ pub(crate) fn near_file<'a, S: Store>(
     ensures { RunsPlan (near_plan (near_file_order names.entry.input.now names.entry.output.now))
         (S.view store.old) (S.view store.new) result }
 {
-    texts_order_ends();
-    let drawing = drawing_in(alloc, store, names.input)?;
-    near_if_kept(alloc, names, &drawing)
+    let text = text_in(alloc, store, names.input)?;
+    near_if_kept(alloc, names, &text)
 }
 
 /// Sews the pieces of a drawing near each other, if no line is cut.
-fn near_if_kept<'a>(alloc: Global, names: FileNames<'a>, drawing: &Drawing) -> Made<'a>
+fn near_if_kept<'a>(alloc: Global, names: FileNames<'a>, text: &TextRead) -> Made<'a>
     requires names { AreFileNames names }
-    requires ordered { HasOrderedEnds drawing.now }
+    requires ordered { HasOrderedEnds text.now.lines.drawing }
+    requires comments { AreTextComments text.now.comments }
     ensures { RunsPurePlan (near_drawing (near_file_order names.entry.input.now names.entry.output.now)
-        drawing.now) result }
+        text.now) result }
 {
-    if !is_kept(alloc, drawing)? {
+    if !is_kept(alloc, &text.lines.drawing)? {
         return Err(not_kept(alloc, names.input));
     }
-    near_read_drawing(alloc, names, drawing)
+    near_read_drawing(alloc, names, text)
 }
 
 /// Draws a drawing again, and sews its pieces near each other.
-fn near_read_drawing<'a>(alloc: Global, names: FileNames<'a>, drawing: &Drawing) -> Made<'a>
+fn near_read_drawing<'a>(alloc: Global, names: FileNames<'a>, text: &TextRead) -> Made<'a>
     requires names { AreFileNames names }
-    requires ordered { HasOrderedEnds drawing.now }
+    requires ordered { HasOrderedEnds text.now.lines.drawing }
+    requires comments { AreTextComments text.now.comments }
     ensures { RunsPurePlan (near_made (near_file_order names.entry.input.now names.entry.output.now)
-        (drawn_with drawing.now drawing.now.lines drawing.now.starts)) result }
+        text.now.comments (drawn_with text.now.lines.drawing text.now.lines.drawing.lines
+        text.now.lines.drawing.starts)) result }
 {
+    let drawing = &text.lines.drawing;
     match draw_with(alloc, drawing, drawing.lines(), drawing.starts()) {
         Ok(before) => {
-            let product = near_product(alloc, names.output, &before)?;
+            let product = near_product(alloc, names.output, &text.comments, &before)?;
             Ok(product)
         }
         Err(why) => Err(space_failure(alloc, names.input, why)),
     }
 }
 
-fn near_product<'a>(alloc: Global, output: &'a str, before: &Drawing) -> Result<Product<'a>, Memory>
+fn near_product<'a>(
+    alloc: Global,
+    output: &'a str,
+    comments: &TextComments,
+    before: &Drawing,
+) -> Result<Product<'a>, Memory>
+    requires comments { AreTextComments comments.now }
     requires joined { is_joined before.now ≡ true }
     requires ordered { HasOrderedEnds before.now }
-    ensures { IfOk result (λ product. IsNearProduct output.now before.now (product_value product)) }
+    ensures { IfOk result (λ product. IsNearProduct output.now comments.now before.now (product_value product)) }
 {
     let found = near(alloc, before)?;
     let report = describe_near(alloc, &found)?;
-    let content = text_of(alloc, &found.drawing)?;
-    let product = one_output(alloc, output, content, text_bytes(report))?;
+    let product = cut_product(alloc, output, comments, &found.drawing, text_bytes(report))?;
     Ok(product)
 }
 

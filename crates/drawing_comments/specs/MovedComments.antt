@@ -24,6 +24,10 @@ line_comments (comment ∷ rest) (n ∷ counts) = part_comments comment n ++ lin
 abbrev pub comments_of_parts : TextComments → List ℕ → TextComments
 comments_of_parts c counts = record c { lines = line_comments c.lines counts }
 
+-- The comments of a text whose lines are others: those of the lines are left out.
+abbrev pub block_comments : TextComments → TextComments
+block_comments c = comments_of_parts c []
+
 -- The comments of parts are comments.
 abbrev pub PartsKeepComments : Type 0
 PartsKeepComments = (c : TextComments) (counts : List ℕ) → AreTextComments c

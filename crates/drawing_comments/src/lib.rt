@@ -9,7 +9,7 @@ mod theorems;
 mod writing;
 
 pub use finding::find_comments;
-pub use moving::spread_comments;
+pub use moving::{comments_of_blocks, spread_comments};
 pub use text_comments::TextComments;
 pub use theorems::{
     comments_keep_lines, found_are_comments, parts_keep_comments, spoken_lines_decide,

@@ -1,5 +1,5 @@
 ghost use Rattle.drawing_comments.specs.CommentLaws.{AreTextComments};
-ghost use Rattle.drawing_comments.specs.MovedComments.{comments_of_parts, line_comments, part_comments, uncommented};
+ghost use Rattle.drawing_comments.specs.MovedComments.{block_comments, comments_of_parts, line_comments, part_comments, uncommented};
 ghost use Rattle.std.specs.Prelude.{◌≡◌, ◌++◌, IfOk, OnOk};
 
 use crate::text_comments::TextComments;
@@ -39,6 +39,16 @@ fn spread(alloc: Global, comments: &TextComments, counts: &[usize]) -> Result<Te
         lines,
         last,
     })
+}
+
+/// Returns the comments of a text whose lines are others: those of the lines are left out.
+pub fn comments_of_blocks(alloc: Global, comments: &TextComments) -> Result<TextComments, Memory>
+    requires { AreTextComments comments.now }
+    ensures value { IfOk result (λ kept. kept ≡ block_comments comments.now) }
+    ensures are { IfOk result AreTextComments }
+{
+    let kept = spread_comments(alloc, comments, &[])?;
+    Ok(kept)
 }
 
 fn copied(alloc: Global, comment: &Bytes) -> Result<Bytes, Memory>

@@ -12,6 +12,10 @@ pub const FILES: &[(&str, &str)] = &[
         "redwork 1\nstep 20\ncolor 1\nline 0 0 8 0 16 0\nline 8 0 8 5\n",
     ),
     (
+        "said.rw",
+        "# top\nredwork 2\nstep 10\n# red\ncolor 1\n# a\nline 0 0 40 0\n# blue\ncolor 2\nline 0 0 0 20\n# end",
+    ),
+    (
         "path.rw",
         "redwork 1\nstep 20\ncolor 1\nline 0 0 8 0\nline 8 0 8 5\n",
     ),
@@ -43,6 +47,9 @@ pub const RUNS: &[Run] = &[
         "lines 1 pieces 1 cost 4\n",
         "redwork 3\nstep 10\ncolor 1\nline -1 0 -41 10\nstart -1 0\nend -41 10\n"),
     refused!("edit one.rw out.rw shift=5,-3" => "stitch_drawing: one.rw: redwork 1 can't be kept: migrate it first\n"),
+    done!("edit said.rw out.rw shift=5,-3" =>
+        "lines 2 pieces 2 cost 6\n",
+        "# top\nredwork 2\nstep 10\n# red\ncolor 1\nline 5 -3 45 -3\n# blue\ncolor 2\nline 5 -3 5 17\n# end\n"),
     done!("edit path.rw out.rw shift=5,-3" =>
         "lines 2 pieces 1 cost 2\n",
         "redwork 2\nstep 20\ncolor 1\nline 5 -3 13 -3\nline 13 -3 13 2\n"),

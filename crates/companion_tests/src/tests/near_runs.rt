@@ -2,7 +2,7 @@
 use super::table_runs::Run;
 use crate::{done, faulted, misused, refused};
 
-/// Three pieces on a line, of which the second is the farthest; lines that meet inside in version 1; and a fault.
+/// Three pieces on a line, of which the second is the farthest; lines that meet inside in version 1; comments; and a fault.
 pub const FILES: &[(&str, &str)] = &[
     (
         "three.rw",
@@ -12,6 +12,10 @@ pub const FILES: &[(&str, &str)] = &[
         "one.rw",
         "redwork 1\nstep 20\ncolor 1\nline 0 0 8 0 16 0\nline 8 0 8 5\n",
     ),
+    (
+        "said.rw",
+        "# top\nredwork 2\nstep 10\n# red\ncolor 1\n# a\nline 0 0 30 0\nline 200 0 210 0\n# c\nline 50 0 60 0\n# end\n",
+    ),
     ("bad.rw", "redwork 2\ncolor 1\nline 0 0 40\n"),
 ];
 
@@ -19,6 +23,9 @@ pub const RUNS: &[Run] = &[
     done!("near three.rw out.rw" =>
         "travel 350 to 170 pieces 3\n",
         "redwork 3\nstep 10\ncolor 1\nline 200 0 210 0\nline 50 0 60 0\nline 0 0 30 0\nstart 200 0\nstart 60 0\nstart 30 0\n"),
+    done!("near said.rw out.rw" =>
+        "travel 350 to 170 pieces 3\n",
+        "# top\nredwork 3\nstep 10\n# red\ncolor 1\nline 200 0 210 0\nline 50 0 60 0\nline 0 0 30 0\nstart 200 0\nstart 60 0\nstart 30 0\n# end\n"),
     refused!("near one.rw out.rw" => "stitch_drawing: one.rw: redwork 1 can't be kept: migrate it first\n"),
     refused!("near bad.rw out.rw" => "stitch_drawing: bad.rw: line 3: too few points\n"),
     faulted!("near none.rw out.rw" => "stitch_drawing: cannot read none.rw\n"),
