@@ -3,7 +3,6 @@ use Rattle.std.proofs.Common.{◌≡◌, ℕ, List, Ok, sym}
 use Rattle.drawing_commands.proofs.Names.{DrawingValue, drawing_of}
 use Rattle.drawing_commands.specs.WholeProducts.{IsWholeProduct, commented_text, whole_text}
 use Rattle.drawing_commands.specs.CutProducts.{IsCutProduct, cut_text}
-use Rattle.drawing_comments.specs.MovedComments.{block_comments}
 use Rattle.drawing_text.specs.EndTexts.{drawn_text}
 use Rattle.drawing_comments.specs.CommentLaws.{AreTextComments, CommentsKeepLines, SpokenLinesDecide, spoken_lines}
 use Rattle.drawing_comments.specs.declared.text_comments.TextComments.{TextComments}
@@ -24,12 +23,12 @@ whole_written output report c drawn joined product keep decide are again lines m
       made = made;
     }
 
--- The product that writes a drawing with its lines cut, and with the comments of blocks.
+-- The product that writes a drawing with its lines cut, and with comments.
 pub cut_written : (output report : List ℕ) (c : TextComments) (d : DrawingValue) (product : ProductValue)
-    → CommentsKeepLines → SpokenLinesDecide → AreTextComments (block_comments c) → drawing_of (drawn_text d) ≡ Ok d
+    → CommentsKeepLines → SpokenLinesDecide → AreTextComments c → drawing_of (drawn_text d) ≡ Ok d
     → product ≡ one_file_product output (cut_text c d) report → IsCutProduct output c d report product
 cut_written output report c d product keep decide are again made =
-    let same : spoken_lines (cut_text c d) ≡ spoken_lines (drawn_text d) = keep (block_comments c) (drawn_text d) are in
+    let same : spoken_lines (cut_text c d) ≡ spoken_lines (drawn_text d) = keep c (drawn_text d) are in
     record {
       same = same;
       again = (decide (drawn_text d) (cut_text c d) d (sym same)).0 again;

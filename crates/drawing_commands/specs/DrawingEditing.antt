@@ -7,6 +7,7 @@ use Rattle.drawing_edits.specs.declared.edit_fault.EditFault.TheVariants as faul
 use Rattle.drawing_edits.specs.EditedDrawings.{edited_drawing}
 use Rattle.drawing_edits.specs.EditFaults.{edit_is_out_of_memory}
 use Rattle.drawing_text.specs.declared.draw_fault.DrawFault.{DrawFault}
+use Rattle.drawing_comments.specs.MovedComments.{block_comments}
 use Rattle.drawing_comments.specs.declared.text_comments.TextComments.{TextComments}
 use Rattle.line_graph.specs.Drawings.{DrawingValue}
 use Rattle.line_graph.specs.GrowingDrawings.{and_then, step_count}
@@ -67,7 +68,7 @@ pub record IsEdited (output : List ℕ) (comments : TextComments) (d : DrawingVa
     (product : ProductValue) : Type 0 where
   pub pieces : List (List ℕ)
   pub pieces_are : ArePieces d pieces
-  pub written : IsCutProduct output comments d
+  pub written : IsCutProduct output (block_comments comments) d
       (migrate_report (length d.lines) (length pieces) (step_count d.step d.lines)) product
 
 -- The plan for the result of the edits: a drawing is accepted, and a bad edit is refused.

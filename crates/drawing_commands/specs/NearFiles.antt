@@ -3,6 +3,7 @@
 use Rattle.std.specs.Prelude.{ℕ, List, ◌++◌, Result, Ok, Err, codes, decimal}
 use Rattle.design_model.specs.TextLines.{newline}
 use Rattle.drawing_text.specs.declared.draw_fault.DrawFault.{DrawFault}
+use Rattle.drawing_comments.specs.OrderedComments.{comments_of_sections}
 use Rattle.drawing_comments.specs.declared.text_comments.TextComments.{TextComments}
 use Rattle.line_graph.specs.declared.draw_kind.DrawKind.{DrawKind}
 use Rattle.line_graph.specs.Drawings.{DrawingValue}
@@ -34,23 +35,29 @@ abbrev pub near_report : (before after pieces : ℕ) → List ℕ
 near_report before after pieces = codes "travel " ++ (tenths_text before ++ (codes " to "
     ++ (tenths_text after ++ (codes " pieces " ++ (decimal pieces ++ newline)))))
 
+-- The comments of what was read, before the lines of the near drawing: these are the sections of the
+-- lines as they are drawn, in another order.
+abbrev pub near_comments : TextRead → DrawingValue → TextComments
+near_comments text near = comments_of_sections text.comments text.lines.drawn.drawing.lines
+    text.lines.drawing.lines near.lines
+
 -- The product of `near`: the near drawing, written with its lines cut, and the report.
-pub record IsNearProduct (output : List ℕ) (comments : TextComments) (before : DrawingValue)
+pub record IsNearProduct (output : List ℕ) (text : TextRead) (before : DrawingValue)
     (product : ProductValue) : Type 0 where
   pub found : NearDrawing
   pub near : IsNear before found
-  pub written : IsCutProduct output comments found.drawing
+  pub written : IsCutProduct output (near_comments text found.drawing) found.drawing
       (near_report found.before found.after found.pieces) product
 
 -- The plan for a joined drawing: it is accepted, and a fault is refused.
-abbrev pub near_made : NearFileOrder → TextComments → Result DrawingValue DrawKind → Plan
-near_made order comments (Ok before) = accepts (IsNearProduct order.output comments before)
-near_made order comments (Err why) = refuses (text_about order.input (draw_kind_text why))
+abbrev pub near_made : NearFileOrder → TextRead → Result DrawingValue DrawKind → Plan
+near_made order text (Ok before) = accepts (IsNearProduct order.output text before)
+near_made order text (Err why) = refuses (text_about order.input (draw_kind_text why))
 
 -- The plan for a drawing: it is drawn again, if no line is cut.
 abbrev pub near_drawing : NearFileOrder → TextRead → Plan
 near_drawing order text = let d = text.lines.drawing in
-    plan_if_kept order.input d (near_made order text.comments (drawn_with d d.lines d.starts))
+    plan_if_kept order.input d (near_made order text (drawn_with d d.lines d.starts))
 
 -- The plan for the result of reading the drawing: a fault is refused.
 abbrev pub near_read : NearFileOrder → Result TextRead DrawFault → Plan

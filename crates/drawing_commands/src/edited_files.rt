@@ -51,11 +51,12 @@ fn edited_product<'a>(
 {
     let pieces = pieces(alloc, drawing)?;
     let report = describe_migration(alloc, drawing, pieces.len())?;
-    let product = cut_product(alloc, output, comments, drawing, report)?;
+    let kept = comments_of_blocks(alloc, comments)?;
+    let product = cut_product(alloc, output, &kept, drawing, report)?;
     Ok(product)
 }
 
-/// Returns the product that writes a joined drawing, with the comments of blocks.
+/// Returns the product that writes a joined drawing, with comments.
 pub(crate) fn cut_product<'a>(
     alloc: Global,
     output: &'a str,
@@ -72,8 +73,7 @@ pub(crate) fn cut_product<'a>(
     comments_keep_lines();
     spoken_lines_decide();
     let plain = text_of(alloc, drawing)?;
-    let kept = comments_of_blocks(alloc, comments)?;
-    let content = put_comments(alloc, &kept, plain.as_slice())?;
+    let content = put_comments(alloc, comments, plain.as_slice())?;
     let product = one_output(alloc, output, content, report)?;
     Ok(product)
 }

@@ -1,5 +1,5 @@
 ghost use Rattle.command_words.specs.ValidNames.{AreFileNames};
-ghost use Rattle.drawing_commands.specs.NearFiles.{IsNearProduct, near_drawing, near_file_order, near_made, near_plan, near_report};
+ghost use Rattle.drawing_commands.specs.NearFiles.{IsNearProduct, near_drawing, near_comments, near_file_order, near_made, near_plan, near_report};
 ghost use Rattle.drawing_comments.specs.CommentLaws.{AreTextComments};
 ghost use Rattle.line_graph.specs.EndOrders.{HasOrderedEnds};
 ghost use Rattle.line_graph.specs.JoinedDrawings.{is_joined};
@@ -14,7 +14,7 @@ use crate::text_reading::{TextRead, text_in};
 use crate::version_one::{is_kept, not_kept};
 use command_words::FileNames;
 use design_model::Memory;
-use drawing_comments::TextComments;
+use drawing_comments::{TextComments, order_comments};
 use line_graph::Drawing;
 use near_pieces::{NearDrawing, draw_with, near};
 use outside_io::Store;
@@ -55,13 +55,13 @@ fn near_read_drawing<'a>(alloc: Global, names: FileNames<'a>, text: &TextRead) -
     requires ordered { HasOrderedEnds text.now.lines.drawing }
     requires comments { AreTextComments text.now.comments }
     ensures { RunsPurePlan (near_made (near_file_order names.entry.input.now names.entry.output.now)
-        text.now.comments (drawn_with text.now.lines.drawing text.now.lines.drawing.lines
+        text.now (drawn_with text.now.lines.drawing text.now.lines.drawing.lines
         text.now.lines.drawing.starts)) result }
 {
     let drawing = &text.lines.drawing;
     match draw_with(alloc, drawing, drawing.lines(), drawing.starts()) {
         Ok(before) => {
-            let product = near_product(alloc, names.output, &text.comments, &before)?;
+            let product = near_product(alloc, names.output, text, &before)?;
             Ok(product)
         }
         Err(why) => Err(space_failure(alloc, names.input, why)),
@@ -71,18 +71,36 @@ fn near_read_drawing<'a>(alloc: Global, names: FileNames<'a>, text: &TextRead) -
 fn near_product<'a>(
     alloc: Global,
     output: &'a str,
-    comments: &TextComments,
+    text: &TextRead,
     before: &Drawing,
 ) -> Result<Product<'a>, Memory>
-    requires comments { AreTextComments comments.now }
+    requires comments { AreTextComments text.now.comments }
     requires joined { is_joined before.now ≡ true }
     requires ordered { HasOrderedEnds before.now }
-    ensures { IfOk result (λ product. IsNearProduct output.now comments.now before.now (product_value product)) }
+    ensures { IfOk result (λ product. IsNearProduct output.now text.now before.now (product_value product)) }
 {
     let found = near(alloc, before)?;
     let report = describe_near(alloc, &found)?;
-    let product = cut_product(alloc, output, comments, &found.drawing, text_bytes(report))?;
+    let comments = comments_near(alloc, text, &found.drawing)?;
+    let product = cut_product(alloc, output, &comments, &found.drawing, text_bytes(report))?;
     Ok(product)
+}
+
+/// Returns the comments of what was read, before the lines of the near drawing.
+fn comments_near(alloc: Global, text: &TextRead, near: &Drawing) -> Result<TextComments, Memory>
+    requires { AreTextComments text.now.comments }
+    ensures value { IfOk result (λ moved. moved ≡ near_comments text.now near.now) }
+    ensures are { IfOk result AreTextComments }
+{
+    let read = &text.lines;
+    let moved = order_comments(
+        alloc,
+        &text.comments,
+        read.drawn.drawing.lines(),
+        read.drawing.lines(),
+        near.lines(),
+    )?;
+    Ok(moved)
 }
 
 fn describe_near(alloc: Global, found: &NearDrawing) -> Result<String, Memory>

@@ -181,7 +181,7 @@ comment_is line free is = λ text.
 more_are : (a b : List ℕ) → AreComments a → AreComments b → AreComments (a ++ b)
 more_are a b here later = λ text. ap spoken_lines (append_assoc a b text) ∙ (here (b ++ text) ∙ later text)
 
-none_are : AreComments []
+pub none_are : AreComments []
 none_are = λ text. refl
 
 -- What is found after one more line are comments.
@@ -240,11 +240,11 @@ found_are_comments = λ text. from_are (parts_between 10 text) no_comments (part
 })
 
 -- The comments before a line are comments, and those that are left too.
-first_are : (comments : List (List ℕ)) → All AreComments comments → AreComments (first_comment comments)
+pub first_are : (comments : List (List ℕ)) → All AreComments comments → AreComments (first_comment comments)
 first_are [] are = none_are
 first_are (comment ∷ rest) are = All-head AreComments comment rest are
 
-left_are : (comments : List (List ℕ)) → All AreComments comments → All AreComments (drop 1 comments)
+pub left_are : (comments : List (List ℕ)) → All AreComments comments → All AreComments (drop 1 comments)
 left_are [] are = All-nil AreComments
 left_are (comment ∷ rest) are = All-tail AreComments comment rest are
 

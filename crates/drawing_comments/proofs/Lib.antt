@@ -1,4 +1,5 @@
 pub mod SpokenLemmas
 pub mod CommentLemmas
 pub mod MovedLemmas
+pub mod OrderedLemmas
 mod CommentFacts

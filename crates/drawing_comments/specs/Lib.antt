@@ -6,3 +6,4 @@ pub mod CommentedTexts
 -- Theorems over these definitions.
 pub mod CommentLaws
 pub mod MovedComments
+pub mod OrderedComments

@@ -8,7 +8,7 @@ use design_model::{Bytes, Items, Memory};
 use std::alloc::Global;
 
 /// Comments of lines or blocks, in order.
-type Comments = Items<Bytes>;
+pub(crate) type Comments = Items<Bytes>;
 
 /// Returns the comments of a text whose lines became parts, by the number of parts of each: a comment is before the first
 /// part of its line.
@@ -51,7 +51,7 @@ pub fn comments_of_blocks(alloc: Global, comments: &TextComments) -> Result<Text
     Ok(kept)
 }
 
-fn copied(alloc: Global, comment: &Bytes) -> Result<Bytes, Memory>
+pub(crate) fn copied(alloc: Global, comment: &Bytes) -> Result<Bytes, Memory>
     ensures { IfOk result (λ copy. copy ≡ comment.now) }
 {
     let mut copy = Bytes::new(alloc);
@@ -59,7 +59,7 @@ fn copied(alloc: Global, comment: &Bytes) -> Result<Bytes, Memory>
     Ok(copy)
 }
 
-fn all_copied(alloc: Global, comments: &[Bytes]) -> Result<Comments, Memory>
+pub(crate) fn all_copied(alloc: Global, comments: &[Bytes]) -> Result<Comments, Memory>
     ensures { IfOk result (λ copies. copies ≡ comments.now) }
 {
     let mut copies = Comments::new(alloc);

@@ -3,5 +3,5 @@ use Rattle.drawing_commands.proofs.edited_files.cut_product.Goals as goal
 
 pub returns : goal.returns
 returns c = cut_written _ _ c.args.comments.now c.args.drawing.now _ c.comments_keep_lines.ensures c.spoken_lines_decide.ensures
-    (rw c.in_ok-kept.ensures.value at c.in_ok-kept.ensures.are) c.in_ok-plain.ensures.again
-    (rw (c.in_ok-content.ensures, c.in_ok-kept.ensures.value, c.as_slice.ensures, c.in_ok-plain.ensures.value) at c.in_ok-product.ensures)
+    c.requires.comments c.in_ok-plain.ensures.again
+    (rw (c.in_ok-content.ensures, c.as_slice.ensures, c.in_ok-plain.ensures.value) at c.in_ok-product.ensures)

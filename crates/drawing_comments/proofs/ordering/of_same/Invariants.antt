@@ -1,0 +1,10 @@
+use Rattle.std.proofs.Common.{◌≡◌, ◌++◌, length}
+use Rattle.drawing_comments.specs.OrderedComments.{comment_of_same}
+use Rattle.drawing_comments.proofs.ordering.of_same.Given as goal
+
+-- the comment is that of one of the lines that are left
+abbrev pub invariant-loop-rest : goal.invariant-loop-rest
+invariant-loop-rest l = comment_of_same l.line l.more l.rest l.left ≡ comment_of_same l.line l.more l.lines l.comments
+
+abbrev pub decreases-loop-rest : goal.decreases-loop-rest
+decreases-loop-rest l = length l.rest
