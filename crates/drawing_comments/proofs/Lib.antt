@@ -3,3 +3,4 @@ pub mod CommentLemmas
 pub mod MovedLemmas
 pub mod OrderedLemmas
 mod CommentFacts
+mod OrderFacts

@@ -1,6 +1,6 @@
 -- The comments of sections in another order are comments.
 use Rattle.std.proofs.Common.{ℕ, ◌==◌, ◌&&◌, Bool, true, false, cond, List, [], ◌∷◌, All, drop}
-use Rattle.std.proofs.lemmas.List.Elements.{All-cons, All-head, All-nil, All-tail}
+use Rattle.std.proofs.lemmas.List.Elements.{All-cons, All-nil}
 use Rattle.std.specs.List.{count_by}
 use Rattle.line_sections.specs.Lines.{LineValue}
 use Rattle.drawing_comments.proofs.CommentLemmas.{first_are, left_are, none_are}

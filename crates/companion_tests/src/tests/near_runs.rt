@@ -31,7 +31,7 @@ pub const RUNS: &[Run] = &[
         "travel 350 to 170 pieces 3\n",
         "# top\nredwork 3\nstep 10\n# red\ncolor 1\nline 200 0 210 0\n# c\nline 50 0 60 0\n# a\nline 0 0 30 0\nstart 200 0\nstart 60 0\nstart 30 0\n# end\n"),
     done!("near cut.rw out.rw" =>
-        "travel 172 to 160 pieces 2\n",
+        "travel 200 to 160 pieces 2\n",
         "redwork 3\nstep 10\ncolor 1\n# far\nline 200 0 210 0\n# bar\nline 0 0 20 0\nline 20 0 40 0\n# stem\nline 20 0 20 30\n# again\nline 20 0 20 30\nstart 200 0\nstart 40 0\n"),
     refused!("near one.rw out.rw" => "stitch_drawing: one.rw: redwork 1 can't be kept: migrate it first\n"),
     refused!("near bad.rw out.rw" => "stitch_drawing: bad.rw: line 3: too few points\n"),

@@ -1,4 +1,4 @@
-use Rattle.std.proofs.Common.{◌≡◌, ◌++◌, length}
+use Rattle.std.proofs.Common.{◌≡◌, length}
 use Rattle.drawing_comments.specs.OrderedComments.{are_same_points}
 use Rattle.drawing_comments.proofs.ordering.have_same_points.Given as goal
 

@@ -1,4 +1,4 @@
-use Rattle.std.proofs.Common.{◌≡◌, ◌++◌, length}
+use Rattle.std.proofs.Common.{◌≡◌, length}
 use Rattle.drawing_comments.specs.OrderedComments.{comment_of_same}
 use Rattle.drawing_comments.proofs.ordering.of_same.Given as goal
 
