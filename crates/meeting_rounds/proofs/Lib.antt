@@ -1,6 +1,9 @@
 mod PutFacts
 mod MoveFacts
 mod RoundFacts
+mod NearFacts
 pub mod SpotLemmas
 pub mod RoundLemmas
 pub mod StayLemmas
+mod PutLemmas
+mod NearLemmas

@@ -3,7 +3,6 @@ use Rattle.std.proofs.Common.{◌≡◌, ℕ, pos, true, false, List, [], ◌∷
 use Rattle.design_model.specs.declared.point.Point.{Point}
 use Rattle.drawing_review.specs.Frames.{grid_point}
 use Rattle.line_meetings.specs.declared.meeting.Meeting.{Meeting}
-use Rattle.line_meetings.specs.declared.meeting.MeetingKind.{MeetingKind}
 use Rattle.line_meetings.specs.declared.meeting.MeetingKind.TheVariants as meeting
 use Rattle.line_sections.specs.declared.spot.Spot.{Spot}
 use Rattle.line_sections.specs.Sections.{lines_through}
@@ -12,7 +11,6 @@ use Rattle.meeting_rounds.specs.MovedPoints.{may_move, merged_points, target_in,
 use Rattle.meeting_rounds.specs.PointBounds.{reaches_bounds, united_drawn}
 use Rattle.meeting_rounds.specs.TrackedLines.{tracked_lines, tracked_point}
 use Rattle.meeting_rounds.specs.declared.point_bounds.PointBounds.{PointBounds}
-use Rattle.meeting_rounds.specs.declared.spot_moves.SpotMove.{SpotMove}
 use Rattle.meeting_rounds.specs.declared.tracked_lines.TrackedLine.{TrackedLine}
 use Rattle.meeting_rounds.specs.declared.tracked_lines.TrackedPoint.{TrackedPoint}
 

@@ -13,20 +13,20 @@ pub idle_stays : (n : ℕ) (lists : Bool) (gap : ℕ) (worked : WorkedLines) (ac
     → acts.is_idle ≡ true → after_rounds n lists gap worked ≡ worked
 idle_stays zero lists gap worked acts is idle = refl
 idle_stays (suc n) lists gap worked acts is idle =
-    ap (λ (b : Bool). if b then worked else after_rounds n lists gap (worked_by (round_acts lists gap worked.lines) worked))
+    ap (λ (b : Bool). if b then worked else after_rounds n lists gap (worked_by gap (round_acts lists gap worked.lines) worked))
     (ap (λ (a : Acts). a.is_idle) (sym is) ∙ idle)
 
 -- One round of several.
 pub one_round : (n : ℕ) (lists : Bool) (gap : ℕ) (worked next : WorkedLines) (acts : Acts) → 0 < n
-    → acts ≡ round_acts lists gap worked.lines → acts.is_idle ≡ false → next ≡ worked_by acts worked
+    → acts ≡ round_acts lists gap worked.lines → acts.is_idle ≡ false → next ≡ worked_by gap acts worked
     → after_rounds (n - 1) lists gap next ≡ after_rounds n lists gap worked
 one_round zero lists gap worked next acts some is busy made = absurd (omega (arith, some))
 one_round (suc n) lists gap worked next acts some is busy made =
     let back : suc n - 1 ≡ n = omega arith in
     ap (λ (k : ℕ). after_rounds k lists gap next) back
-    ∙ (ap (λ (w : WorkedLines). after_rounds n lists gap w) (made ∙ ap (λ (a : Acts). worked_by a worked) is)
+    ∙ (ap (λ (w : WorkedLines). after_rounds n lists gap w) (made ∙ ap (λ (a : Acts). worked_by gap a worked) is)
     ∙ sym (ap (λ (b : Bool). if b then worked
-    else after_rounds n lists gap (worked_by (round_acts lists gap worked.lines) worked))
+    else after_rounds n lists gap (worked_by gap (round_acts lists gap worked.lines) worked))
     (ap (λ (a : Acts). a.is_idle) (sym is) ∙ busy)))
 
 -- a start or an end moves within its block
@@ -40,10 +40,10 @@ pub starts_stay : (n : ℕ) (lists : Bool) (gap : ℕ) (worked : WorkedLines)
     → map (λ (s : Spot). s.block) (after_rounds n lists gap worked).starts ≡ map (λ (s : Spot). s.block) worked.starts
 starts_stay zero lists gap worked = refl
 starts_stay (suc n) lists gap worked = by_test (round_acts lists gap worked.lines).is_idle
-    (starts_stay n lists gap (worked_by (round_acts lists gap worked.lines) worked))
+    (starts_stay n lists gap (worked_by gap (round_acts lists gap worked.lines) worked))
   where
     next : WorkedLines
-    next = worked_by (round_acts lists gap worked.lines) worked
+    next = worked_by gap (round_acts lists gap worked.lines) worked
 
     by_test : (b : Bool)
         → map (λ (s : Spot). s.block) (after_rounds n lists gap next).starts ≡ map (λ (s : Spot). s.block) next.starts
@@ -57,10 +57,10 @@ pub ends_stay : (n : ℕ) (lists : Bool) (gap : ℕ) (worked : WorkedLines)
     → map (λ (s : Spot). s.block) (after_rounds n lists gap worked).ends ≡ map (λ (s : Spot). s.block) worked.ends
 ends_stay zero lists gap worked = refl
 ends_stay (suc n) lists gap worked = by_test (round_acts lists gap worked.lines).is_idle
-    (ends_stay n lists gap (worked_by (round_acts lists gap worked.lines) worked))
+    (ends_stay n lists gap (worked_by gap (round_acts lists gap worked.lines) worked))
   where
     next : WorkedLines
-    next = worked_by (round_acts lists gap worked.lines) worked
+    next = worked_by gap (round_acts lists gap worked.lines) worked
 
     by_test : (b : Bool)
         → map (λ (s : Spot). s.block) (after_rounds n lists gap next).ends ≡ map (λ (s : Spot). s.block) next.ends

@@ -1,5 +1,5 @@
 -- Lines that have no meeting.
-use Rattle.std.proofs.Common.{◌≡◌, ℕ, Bool, List, [], ◌∷◌, map, refl, ap, ◌∙◌, sym}
+use Rattle.std.proofs.Common.{◌≡◌, List, [], ◌∷◌, map, refl, ap, ◌∙◌, sym}
 use Rattle.design_model.specs.declared.point.Point.{Point}
 use Rattle.line_meetings.specs.Meetings.{meetings_of_lines}
 use Rattle.line_meetings.specs.declared.meeting.Meeting.{Meeting}

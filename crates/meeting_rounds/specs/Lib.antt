@@ -11,4 +11,5 @@ pub mod PinnedSpots
 pub mod Acts
 -- Read this one first: lines after rounds.
 pub mod Rounds
+pub mod NearLines
 pub mod RoundLaws

@@ -51,9 +51,14 @@ may_move gap to p = lets_move gap to p p.drawn
 abbrev pub moved_to : List SpotMove → ℕ → Point → Point
 moved_to moves block p = unwrap_or (target_in moves (spot_at block p)) p
 
+-- A point after a move, if there is one and it may move there.
+abbrev pub point_at : ℕ → Option Point → TrackedPoint → TrackedPoint
+point_at gap None p = p
+point_at gap (Some to) p = if may_move gap to p then record p { at = to } else p
+
 -- A point of a block's line after the moves.
-abbrev pub point_moved : List SpotMove → ℕ → TrackedPoint → TrackedPoint
-point_moved moves block p = record p { at = moved_to moves block p.at }
+abbrev pub point_moved : ℕ → List SpotMove → ℕ → TrackedPoint → TrackedPoint
+point_moved gap moves block p = point_at gap (target_in moves (spot_at block p.at)) p
 
 -- A start or an end after the moves.
 abbrev pub spot_moved : List SpotMove → Spot → Spot
@@ -75,17 +80,17 @@ merged_points [] = []
 merged_points (p ∷ rest) = merged_from p rest
 
 -- The points of a block's line after the moves, before any become one.
-abbrev pub points_moved : List SpotMove → ℕ → List TrackedPoint → List TrackedPoint
-points_moved moves block points = map (point_moved moves block) points
+abbrev pub points_moved : ℕ → List SpotMove → ℕ → List TrackedPoint → List TrackedPoint
+points_moved gap moves block points = map (point_moved gap moves block) points
 
 -- A line after the moves.
-abbrev pub line_moved : List SpotMove → TrackedLine → TrackedLine
-line_moved moves line =
-    record line { points = merged_points (points_moved moves line.block line.points) }
+abbrev pub line_moved : ℕ → List SpotMove → TrackedLine → TrackedLine
+line_moved gap moves line =
+    record line { points = merged_points (points_moved gap moves line.block line.points) }
 
 -- Lines after the moves.
-abbrev pub lines_moved : List SpotMove → List TrackedLine → List TrackedLine
-lines_moved moves lines = map (line_moved moves) lines
+abbrev pub lines_moved : ℕ → List SpotMove → List TrackedLine → List TrackedLine
+lines_moved gap moves lines = map (line_moved gap moves) lines
 
 -- Starts or ends after the moves.
 abbrev pub spots_moved : List SpotMove → List Spot → List Spot

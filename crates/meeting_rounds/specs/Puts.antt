@@ -2,6 +2,7 @@
 -- near the segment as drawn, so that no line drifts away from itself as drawn. Indexes count from
 -- 0, and lengths are whole tenths of a millimetre.
 use Rattle.std.specs.Prelude.{ℕ, ◌+◌, Bool, false, not, ◌&&◌, List, [], ◌∷◌, drop, Option, Some, None, if◌then◌else◌}
+use Rattle.design_model.specs.declared.point.Point.{Point}
 use Rattle.drawing_review.specs.declared.grid_point.GridPoint.{GridPoint}
 use Rattle.drawing_review.specs.declared.segment.LineSegment.{LineSegment}
 use Rattle.drawing_review.specs.Frames.{grid_point}
@@ -12,10 +13,14 @@ use Rattle.meeting_rounds.specs.declared.tracked_lines.TrackedLine.{TrackedLine}
 use Rattle.meeting_rounds.specs.declared.tracked_lines.TrackedPoint.{TrackedPoint}
 use Rattle.meeting_rounds.specs.PlaceNumbers.{place_number_of}
 
+-- The segment between two points.
+abbrev pub drawn_between : (from to : Point) → LineSegment
+drawn_between from to = drawn_segment
+    (record { block = 0; line = 0; number = 0; is_first = false; is_last = false }) from to
+
 -- The segment as drawn that leads on from a point.
 abbrev pub segment_as_drawn : TrackedPoint → LineSegment
-segment_as_drawn p = drawn_segment
-    (record { block = 0; line = 0; number = 0; is_first = false; is_last = false }) p.from p.to
+segment_as_drawn p = drawn_between p.from p.to
 
 -- A point may be put between a and b: it is neither of them, and within one more than the gap of
 -- the segment as drawn.

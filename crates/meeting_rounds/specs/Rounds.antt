@@ -19,13 +19,14 @@ round_acts lists_crossings gap lines = acts_next lists_crossings gap
     (meetings_of_lines gap (lines_as_worked lines))
 
 -- Lines after points were put into their segments and points moved.
-abbrev pub lines_after : Acts → List TrackedLine → List TrackedLine
-lines_after acts lines = lines_moved acts.moves (filled_lines (places_put acts.puts) 0 lines)
+abbrev pub lines_after : ℕ → Acts → List TrackedLine → List TrackedLine
+lines_after gap acts lines =
+    lines_moved gap acts.moves (filled_lines (places_put acts.puts) 0 lines)
 
 -- Lines, starts and ends after the acts of a round.
-abbrev pub worked_by : Acts → WorkedLines → WorkedLines
-worked_by acts worked = record {
-  lines = lines_after acts worked.lines;
+abbrev pub worked_by : ℕ → Acts → WorkedLines → WorkedLines
+worked_by gap acts worked = record {
+  lines = lines_after gap acts worked.lines;
   starts = spots_moved acts.moves worked.starts;
   ends = spots_moved acts.moves worked.ends;
 }
@@ -36,7 +37,7 @@ abbrev pub after_rounds : (rounds : ℕ) → (lists_crossings : Bool) → (gap :
 after_rounds zero lists_crossings gap worked = worked
 after_rounds (suc n) lists_crossings gap worked =
     let acts = round_acts lists_crossings gap worked.lines in
-    if acts.is_idle then worked else after_rounds n lists_crossings gap (worked_by acts worked)
+    if acts.is_idle then worked else after_rounds n lists_crossings gap (worked_by gap acts worked)
 
 -- Lines, starts and ends after as many rounds as there may be.
 unfoldable pub settled_lines : (lists_crossings : Bool) → (gap : ℕ) → WorkedLines → WorkedLines

@@ -1,6 +1,6 @@
 -- Lines that are worked on. Each point of one has the segment as drawn that leads on from it, and
 -- the bounds of the points as drawn that it stands for.
-use Rattle.std.specs.Prelude.{ℕ, List, [], ◌∷◌, map, Some}
+use Rattle.std.specs.Prelude.{List, [], ◌∷◌, map, Some}
 use Rattle.design_model.specs.declared.point.Point.{Point}
 use Rattle.drawing_review.specs.Frames.{grid_point}
 use Rattle.line_sections.specs.Lines.{LineValue}

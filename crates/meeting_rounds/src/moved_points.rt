@@ -1,4 +1,4 @@
-ghost use Rattle.meeting_rounds.specs.MovedPoints.{line_moved, lines_moved, may_move, merged as merged_of, merged_from, merged_points, moved_to, points_moved, spots_moved};
+ghost use Rattle.meeting_rounds.specs.MovedPoints.{line_moved, lines_moved, may_move, merged as merged_of, merged_from, merged_points, moved_to, point_at, point_moved, points_moved, spots_moved};
 ghost use Rattle.meeting_rounds.specs.declared.rounds.TheConstants.{MAX_ROUND_GAP};
 ghost use Rattle.std.specs.List.{list_all};
 ghost use Rattle.std.specs.Prelude.{◌≡◌, ◌≤◌, ◌++◌, ◌∷◌, [], IfOk, OnOk};
@@ -34,29 +34,33 @@ pub fn are_movable(gap: u16, to: Point, points: &[TrackedPoint]) -> bool
 /// Returns lines after their points moved.
 pub fn moved_lines(
     alloc: Global,
+    gap: u16,
     moves: &SpotMoves,
     lines: &[TrackedLine],
 ) -> Result<Vec<TrackedLine>, Memory>
+    requires { gap ≤ MAX_ROUND_GAP }
     ensures { IfOk result (λ moved.
-        moved.items ≡ lines_moved moves.now lines.now) }
+        moved.items ≡ lines_moved gap moves.now lines.now) }
 {
     let mut moved = Vec::new(alloc);
     for line in lines {
-        put_moved(alloc, moves, line, &mut moved)?;
+        put_moved(alloc, gap, moves, line, &mut moved)?;
     }
     Ok(moved)
 }
 
 fn put_moved(
     alloc: Global,
+    gap: u16,
     moves: &SpotMoves,
     line: &TrackedLine,
     moved: &mut Vec<TrackedLine>,
 ) -> Result<(), Memory>
+    requires { gap ≤ MAX_ROUND_GAP }
     ensures { OnOk result (moved.new.items
-        ≡ moved.old.items ++ line_moved moves.now line.now ∷ []) }
+        ≡ moved.old.items ++ line_moved gap moves.now line.now ∷ []) }
 {
-    let points = moved_line(alloc, moves, line.block, line.points.as_slice())?;
+    let points = moved_line(alloc, gap, moves, line.block, line.points.as_slice())?;
     let points = without_repeats(alloc, points.as_slice())?;
     moved.push(TrackedLine {
         block: line.block,
@@ -67,23 +71,46 @@ fn put_moved(
 
 fn moved_line(
     alloc: Global,
+    gap: u16,
     moves: &SpotMoves,
     block: u32,
     points: &[TrackedPoint],
 ) -> Result<Items<TrackedPoint>, Memory>
+    requires { gap ≤ MAX_ROUND_GAP }
     ensures { IfOk result (λ moved.
-        moved ≡ points_moved moves.now block points.now) }
+        moved ≡ points_moved gap moves.now block points.now) }
 {
     let mut moved = Items::new(alloc);
     for p in points {
-        moved.push(TrackedPoint {
-            at: target_of(moves, block, p.at),
-            from: p.from,
-            to: p.to,
-            drawn: p.drawn,
-        })?;
+        moved.push(moved_point(gap, moves, block, p))?;
     }
     Ok(moved)
+}
+
+fn moved_point(gap: u16, moves: &SpotMoves, block: u32, p: &TrackedPoint) -> TrackedPoint
+    requires { gap ≤ MAX_ROUND_GAP }
+    ensures { result ≡ point_moved gap moves.now block p.now }
+{
+    let target = moves.target(Spot { block, at: p.at });
+    put_at(gap, target, p)
+}
+
+fn put_at(gap: u16, target: Option<Point>, p: &TrackedPoint) -> TrackedPoint
+    requires { gap ≤ MAX_ROUND_GAP }
+    ensures { result ≡ point_at gap target p.now }
+{
+    let Some(to) = target else {
+        return *p;
+    };
+    if !is_movable(gap, to, p) {
+        return *p;
+    }
+    TrackedPoint {
+        at: to,
+        from: p.from,
+        to: p.to,
+        drawn: p.drawn,
+    }
 }
 
 fn target_of(moves: &SpotMoves, block: u32, at: Point) -> Point

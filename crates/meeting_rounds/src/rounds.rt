@@ -66,7 +66,7 @@ fn after(
         if acts.is_idle {
             return Ok(worked);
         }
-        worked = worked_on(alloc, &acts, &worked)?;
+        worked = worked_on(alloc, gap, &acts, &worked)?;
         left -= 1;
     }
     Ok(worked)
@@ -97,10 +97,16 @@ fn acts_of_round(
 }
 
 /// Returns lines, starts and ends after the acts of a round.
-fn worked_on(alloc: Global, acts: &Acts, worked: &WorkedLines) -> Result<WorkedLines, Memory>
-    ensures { IfOk result (λ next. next ≡ worked_by acts.now worked.now) }
+fn worked_on(
+    alloc: Global,
+    gap: u16,
+    acts: &Acts,
+    worked: &WorkedLines,
+) -> Result<WorkedLines, Memory>
+    requires { gap ≤ MAX_ROUND_GAP }
+    ensures { IfOk result (λ next. next ≡ worked_by gap acts.now worked.now) }
 {
-    let lines = lines_worked_by(alloc, acts, worked.lines.as_slice())?;
+    let lines = lines_worked_by(alloc, gap, acts, worked.lines.as_slice())?;
     let starts = moved_spots(alloc, &acts.moves, worked.starts.as_slice())?;
     let ends = moved_spots(alloc, &acts.moves, worked.ends.as_slice())?;
     Ok(WorkedLines {
@@ -112,13 +118,15 @@ fn worked_on(alloc: Global, acts: &Acts, worked: &WorkedLines) -> Result<WorkedL
 
 fn lines_worked_by(
     alloc: Global,
+    gap: u16,
     acts: &Acts,
     lines: &[TrackedLine],
 ) -> Result<Items<TrackedLine>, Memory>
-    ensures { IfOk result (λ next. next ≡ lines_after acts.now lines.now) }
+    requires { gap ≤ MAX_ROUND_GAP }
+    ensures { IfOk result (λ next. next ≡ lines_after gap acts.now lines.now) }
 {
     let filled = with_puts(alloc, acts.puts.as_slice(), lines)?;
-    let moved = moved_lines(alloc, &acts.moves, filled.as_slice())?;
+    let moved = moved_lines(alloc, gap, &acts.moves, filled.as_slice())?;
     Ok(Items::from_vec(moved))
 }
 

@@ -1,4 +1,3 @@
-use Rattle.std.proofs.Common.{rules}
 use Rattle.std.specs.HashMap.{get}
 use Rattle.line_sections.specs.Spots.{is_same_spot}
 use Rattle.meeting_rounds.proofs.SpotLemmas.{point_added}

@@ -1,4 +1,4 @@
-use Rattle.std.proofs.Common.{List, ap, map, ◌∙◌}
+use Rattle.std.proofs.Common.{ap, map, ◌∙◌}
 use Rattle.line_sections.specs.declared.spot.Spot.{Spot}
 use Rattle.meeting_rounds.specs.Rounds.{settled_lines}
 use Rattle.meeting_rounds.specs.declared.rounds.TheConstants.{MAX_ROUNDS}

@@ -1,5 +1,4 @@
 use Rattle.std.proofs.Common.{◌≡◌, ◌++◌, drop, map}
-use Rattle.design_model.specs.declared.point.Point.{Point}
 use Rattle.meeting_rounds.specs.declared.tracked_lines.TrackedPoint.{TrackedPoint}
 use Rattle.meeting_rounds.proofs.tracked_lines.points_of.Given as goal
 
