@@ -7,3 +7,4 @@ pub mod RoundLemmas
 pub mod StayLemmas
 mod PutLemmas
 mod NearLemmas
+mod NearPointLemmas

@@ -1,10 +1,10 @@
 -- Worked values of how far lines are from themselves as drawn, in tenths of a millimetre.
-use Rattle.std.proofs.Common.{◌≡◌, ℕ, pos, true, false, inl, inr, List, [], ◌∷◌, refl, ap, subst, sym}
+use Rattle.std.proofs.Common.{◌≡◌, ℕ, pos, true, false, inl, inr, List, [], ◌∷◌, Some, refl, ap, subst, sym}
 use Rattle.design_model.specs.declared.point.Point.{Point}
 use Rattle.line_meetings.specs.Telling.{told}
 use Rattle.line_sections.specs.Lines.{LineValue}
 use Rattle.line_sections.specs.Sections.{lines_through}
-use Rattle.meeting_rounds.specs.NearLines.{StaysNear, StaysNearDrawn, are_within}
+use Rattle.meeting_rounds.specs.NearLines.{StaysNear, StaysNearDrawn, are_within, is_near_drawn}
 use Rattle.meeting_rounds.specs.Rounds.{after_rounds}
 use Rattle.meeting_rounds.specs.TrackedLines.{lines_as_worked, tracked_lines}
 
@@ -29,7 +29,7 @@ first_or p (q ∷ rest) = q
 
 -- one more is too far for a point that stands for one as drawn
 pub known_far : StaysNearDrawn 1 ends (at 4 0 ∷ at 40 0 ∷ []) → ⊥
-known_far (inl (near, after)) = cc
+known_far (inl (never, after)) = absurd never
 known_far (inr (q, run, rest, is, near, after)) =
     apart (subst (λ (p : Point). are_within 3 (at 4 0) (p ∷ run) ≡ true) (sym (ap (first_or q) is)) near)
   where
@@ -37,7 +37,7 @@ known_far (inr (q, run, rest, is, near, after)) =
     apart is = cc
 
 -- and for a listed one
-pub known_beside : StaysNear 3 2 (at 0 0) (at 40 0 ∷ []) (at 20 3 ∷ at 40 0 ∷ []) → ⊥
+pub known_beside : StaysNear 3 2 (Some (at 0 0)) (at 40 0 ∷ []) (at 20 3 ∷ at 40 0 ∷ []) → ⊥
 known_beside (inl (near, after)) = cc
 known_beside (inr (q, run, rest, is, near, after)) =
     apart (subst (λ (p : Point). are_within 3 (at 20 3) (p ∷ run) ≡ true) (sym (ap (first_or q) is)) near)
@@ -47,7 +47,7 @@ known_beside (inr (q, run, rest, is, near, after)) =
 
 -- and no point as drawn is without one
 pub known_all : StaysNearDrawn 1 ends (at 0 0 ∷ []) → ⊥
-known_all (inl (near, after)) = cc
+known_all (inl (never, after)) = absurd never
 known_all (inr (q, [], rest, is, near, after)) = cc
 known_all (inr (q, r ∷ run, rest, is, near, after)) = cc
 
@@ -61,3 +61,10 @@ pub known_farthest : lines_as_worked (after_rounds 3 false 1 (record { lines = t
     ∷ (at 33 30 ∷ at 60 30 ∷ []) ∷ [])
 unfolding told
 known_farthest = refl
+
+-- a point near a segment of a line, or near one of its points
+pub known_points : (is_near_drawn 1 ends (at 20 2) ≡ true) × (is_near_drawn 1 ends (at 20 3) ≡ false)
+    × (is_near_drawn 1 ends (at 43 3) ≡ true) × (is_near_drawn 1 ends (at 44 0) ≡ false)
+    × (is_near_drawn 1 (at 0 0 ∷ at 40 0 ∷ at 40 30 ∷ []) (at 42 15) ≡ true)
+    × (is_near_drawn 1 (at 0 0 ∷ at 40 0 ∷ at 40 30 ∷ []) (at 20 15) ≡ false)
+known_points = (refl, refl, refl, refl, refl, refl)

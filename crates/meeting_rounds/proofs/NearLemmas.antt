@@ -6,6 +6,7 @@ use Rattle.std.proofs.lemmas.List.{append_assoc}
 use Rattle.std.proofs.lemmas.List.Elements.{All-append, All-cons, All-head, All-nil, All-tail, All-weaker}
 use Rattle.std.specs.Prelude.{if◌then◌else◌}
 use Rattle.design_model.proofs.CallerLemmas.{same_is}
+use Rattle.design_model.proofs.ListLemmas.{some_same}
 use Rattle.design_model.specs.Points.{is_same_point}
 use Rattle.design_model.specs.declared.point.Point.{Point}
 use Rattle.drawing_review.specs.declared.grid_point.GridPoint.{GridPoint}
@@ -19,7 +20,7 @@ use Rattle.meeting_rounds.proofs.PutLemmas.{HasPuts, MayBePut, NearFirst, NearIn
 use Rattle.meeting_rounds.specs.Acts.{no_acts}
 use Rattle.meeting_rounds.specs.FilledLines.{filled_from, filled_lines, filled_points, places_put, points_put}
 use Rattle.meeting_rounds.specs.MovedPoints.{lets_move, lines_moved, may_move, merged, merged_from, merged_points, point_at, points_moved, target_in, tracked_at}
-use Rattle.meeting_rounds.specs.NearLines.{IsAlong, LinesStayNear, StaysNear, StaysNearDrawn, are_within, last_of}
+use Rattle.meeting_rounds.specs.NearLines.{IsAlong, LinesStayNear, StaysNear, are_within, last_of}
 use Rattle.meeting_rounds.specs.PlaceNumbers.{point_of_place}
 use Rattle.meeting_rounds.specs.PointBounds.{bounds_of_point, joined_bounds, reaches_bounds, united_drawn}
 use Rattle.meeting_rounds.specs.Puts.{drawn_between, segment_as_drawn}
@@ -59,9 +60,9 @@ leads [] p never = absurd never
 leads (q ∷ coming) p is = is
 
 -- a point was put into the segment as drawn that leads on
-record IsPut (gap : ℕ) (from : Point) (coming : List Point) (p : TrackedPoint) : Type 0 where
+record IsPut (gap : ℕ) (from : Option Point) (coming : List Point) (p : TrackedPoint) : Type 0 where
   drawn : p.drawn ≡ None
-  begins : p.from ≡ from
+  begins : Some p.from ≡ from
   ends : LeadsOn coming p.to
   near : is_near (gap + 1) (grid_point p.at) (segment_as_drawn p) ≡ true
 
@@ -75,12 +76,12 @@ record Stands (gap : ℕ) (coming : List Point) (q : Point) (run rest : List Poi
   ends : Leads rest p.to
 
 -- what is left of a line that is worked on keeps near itself as drawn
-abbrev Tracks : (gap : ℕ) → (from : Point) → (coming : List Point) → List TrackedPoint → Type 0
+abbrev Tracks : (gap : ℕ) → (from : Option Point) → (coming : List Point) → List TrackedPoint → Type 0
 Tracks gap from coming [] = coming ≡ []
 Tracks gap from coming (p ∷ points) =
     (IsPut gap from coming p × Tracks gap from coming points)
     ⊎ ((q : Point) × (run rest : List Point) × (bounds : PointBounds) × Stands gap coming q run rest bounds p
-    × Tracks gap (last_of q run) rest points)
+    × Tracks gap (Some (last_of q run)) rest points)
 
 -- a point near bounds is near what they have
 reached : (reach : ℕ) (bounds : PointBounds) (g h : GridPoint) → reaches_bounds reach bounds g ≡ true → IsIn bounds h
@@ -94,21 +95,19 @@ all_reached reach bounds p (q ∷ points) near has =
     ap₂ (λ (a b : Bool). a && b) (reached reach bounds (grid_point p) (grid_point q) near (All-head (Has bounds) q points has))
     (all_reached reach bounds p points near (All-tail (Has bounds) q points has))
 
-along : (room : ℕ) (from : Point) (coming : List Point) (p to : Point) → LeadsOn coming to
-    → is_near room (grid_point p) (drawn_between from to) ≡ true → IsAlong room from coming p
-along room from [] p to never near = absurd never
-along room from (q ∷ coming) p to is near = subst (λ (x : Point). is_near room (grid_point p) (drawn_between from x) ≡ true) is near
+along : (room : ℕ) (from : Option Point) (coming : List Point) (p begin to : Point) → Some begin ≡ from → LeadsOn coming to
+    → is_near room (grid_point p) (drawn_between begin to) ≡ true → IsAlong room from coming p
+along room from [] p begin to begins never near = absurd never
+along room from (q ∷ coming) p begin to begins is near =
+    subst (λ (x : Option Point). IsAlong room x (q ∷ coming) p) begins
+    (subst (λ (x : Point). is_near room (grid_point p) (drawn_between begin x) ≡ true) is near)
 
 -- Such a line stays near.
-tracks_near : (gap : ℕ) (from : Point) (coming : List Point) (points : List TrackedPoint) → Tracks gap from coming points
+tracks_near : (gap : ℕ) (from : Option Point) (coming : List Point) (points : List TrackedPoint) → Tracks gap from coming points
     → StaysNear (2 * gap + 1) (gap + 1) from coming (map (λ p. p.at) points)
 tracks_near gap from coming [] none = none
 tracks_near gap from coming (p ∷ points) (inl (put, after)) =
-    inl (
-      along (gap + 1) from coming p.at p.to put.ends
-          (subst (λ (x : Point). is_near (gap + 1) (grid_point p.at) (drawn_between x p.to) ≡ true) put.begins put.near),
-      tracks_near gap from coming points after,
-    )
+    inl (along (gap + 1) from coming p.at p.from p.to put.begins put.ends put.near, tracks_near gap from coming points after)
 tracks_near gap from coming (p ∷ points) (inr (q, run, rest, bounds, stands, after)) =
     inr (
       q,
@@ -116,7 +115,7 @@ tracks_near gap from coming (p ∷ points) (inr (q, run, rest, bounds, stands, a
       rest,
       stands.next,
       all_reached (2 * gap + 1) bounds p.at (q ∷ run) stands.near stands.has,
-      tracks_near gap (last_of q run) rest points after,
+      tracks_near gap (Some (last_of q run)) rest points after,
     )
 
 -- what is put joins the next point
@@ -155,7 +154,7 @@ all_in a b q r run more has_a has_b =
     (All-weaker (Has b) (Has (joined_bounds a b)) (λ x. second_in a b (grid_point x)) (r ∷ more) has_b)
 
 -- Two points at one place become one.
-joined_tracks : (gap : ℕ) (from : Point) (coming : List Point) (p q : TrackedPoint) (points : List TrackedPoint)
+joined_tracks : (gap : ℕ) (from : Option Point) (coming : List Point) (p q : TrackedPoint) (points : List TrackedPoint)
     → is_same_point p.at q.at ≡ true → Tracks gap from coming (p ∷ q ∷ points) → Tracks gap from coming (merged p q ∷ points)
 joined_tracks gap from coming p q points same (inl (put, after)) =
     subst (λ (r : TrackedPoint). Tracks gap from coming (r ∷ points)) (sym (joins_next p q put.drawn)) after
@@ -170,7 +169,7 @@ joined_tracks gap from coming p q points same (inr (a, run, rest, bounds, stands
         next = stands.next;
         has = stands.has;
         near = subst (λ (x : Point). reaches_bounds (2 * gap + 1) bounds (grid_point x) ≡ true) (same_is p.at q.at same) stands.near;
-        begins = put.begins;
+        begins = some_same q.from (last_of a run) put.begins;
         ends = leads rest q.to put.ends;
       },
       after,
@@ -192,19 +191,19 @@ joined_tracks gap from coming p q points same (inr (a, run, rest, bounds, stands
         begins = stands'.begins ∙ sym (last_over a b run more);
         ends = stands'.ends;
       },
-      subst (λ (x : Point). Tracks gap x last points) (sym (last_over a b run more)) after,
+      subst (λ (x : Point). Tracks gap (Some x) last points) (sym (last_over a b run more)) after,
     )
 
 -- what comes after a first point may change
-after_first : (gap : ℕ) (from : Point) (coming : List Point) (p : TrackedPoint) (points others : List TrackedPoint)
-    → ((x : Point) (xs : List Point) → p.from ≡ x → Leads xs p.to → Tracks gap x xs points → Tracks gap x xs others)
+after_first : (gap : ℕ) (from : Option Point) (coming : List Point) (p : TrackedPoint) (points others : List TrackedPoint)
+    → ((x : Option Point) (xs : List Point) → Some p.from ≡ x → Leads xs p.to → Tracks gap x xs points → Tracks gap x xs others)
     → Tracks gap from coming (p ∷ points) → Tracks gap from coming (p ∷ others)
 after_first gap from coming p points others change (inl (put, after)) =
     inl (put, change from coming put.begins (leads coming p.to put.ends) after)
 after_first gap from coming p points others change (inr (q, run, rest, bounds, stands, after)) =
-    inr (q, run, rest, bounds, stands, change (last_of q run) rest stands.begins stands.ends after)
+    inr (q, run, rest, bounds, stands, change (Some (last_of q run)) rest (ap Some stands.begins) stands.ends after)
 
-merged_tracks : (gap : ℕ) (from : Point) (coming : List Point) (p : TrackedPoint) (points : List TrackedPoint)
+merged_tracks : (gap : ℕ) (from : Option Point) (coming : List Point) (p : TrackedPoint) (points : List TrackedPoint)
     → Tracks gap from coming (p ∷ points) → Tracks gap from coming (merged_from p points)
 merged_tracks gap from coming p [] tracks = tracks
 merged_tracks gap from coming p (q ∷ points) tracks =
@@ -219,7 +218,7 @@ merged_tracks gap from coming p (q ∷ points) tracks =
     by_test false other one two = two
 
 -- A point that may move to a place keeps near.
-put_moved : (gap : ℕ) (from : Point) (coming : List Point) (o : Option Point) (p : TrackedPoint) → IsPut gap from coming p
+put_moved : (gap : ℕ) (from : Option Point) (coming : List Point) (o : Option Point) (p : TrackedPoint) → IsPut gap from coming p
     → IsPut gap from coming (point_at gap o p)
 put_moved gap from coming None p put = put
 put_moved gap from coming (Some to) p put = by_test (may_move gap to p) refl
@@ -250,7 +249,7 @@ stands_moved gap coming q run rest bounds (Some to) p stands = by_test (may_move
       ends = stands.ends;
     }
 
-moved_tracks : (gap : ℕ) (moves : List SpotMove) (block : ℕ) (from : Point) (coming : List Point) (points : List TrackedPoint)
+moved_tracks : (gap : ℕ) (moves : List SpotMove) (block : ℕ) (from : Option Point) (coming : List Point) (points : List TrackedPoint)
     → Tracks gap from coming points → Tracks gap from coming (points_moved gap moves block points)
 moved_tracks gap moves block from coming [] none = none
 moved_tracks gap moves block from coming (p ∷ points) (inl (put, after)) =
@@ -262,12 +261,12 @@ moved_tracks gap moves block from coming (p ∷ points) (inr (q, run, rest, boun
       rest,
       bounds,
       stands_moved gap coming q run rest bounds (target_in moves (spot_at block p.at)) p stands,
-      moved_tracks gap moves block (last_of q run) rest points after,
+      moved_tracks gap moves block (Some (last_of q run)) rest points after,
     )
 
 -- Points put into a segment keep near it.
-put_tracks : (gap : ℕ) (from : Point) (coming : List Point) (p : TrackedPoint) (points : List TrackedPoint) (places : List ℕ)
-    → p.from ≡ from → LeadsOn coming p.to
+put_tracks : (gap : ℕ) (from : Option Point) (coming : List Point) (p : TrackedPoint) (points : List TrackedPoint) (places : List ℕ)
+    → Some p.from ≡ from → LeadsOn coming p.to
     → All (λ n. is_near (gap + 1) (grid_point (point_of_place n)) (segment_as_drawn p) ≡ true) places
     → Tracks gap from coming points → Tracks gap from coming (points_put p places ++ points)
 put_tracks gap from coming p points [] begins ends near tracks = tracks
@@ -280,7 +279,7 @@ put_tracks gap from coming p points (n ∷ places) begins ends near tracks =
     Near : ℕ → Type 0
     Near n = is_near (gap + 1) (grid_point (point_of_place n)) (segment_as_drawn p) ≡ true
 
-leads_more : (gap : ℕ) (from : Point) (coming : List Point) (to : Point) (q : TrackedPoint) (points : List TrackedPoint)
+leads_more : (gap : ℕ) (from : Option Point) (coming : List Point) (to : Point) (q : TrackedPoint) (points : List TrackedPoint)
     → Leads coming to → Tracks gap from coming (q ∷ points) → LeadsOn coming to
 leads_more gap from [] to q points ends (inl (put, after)) = put.ends
 leads_more gap from [] to q points ends (inr (a, run, rest, bounds, stands, after)) = absurd (nothing a (run ++ rest) stands.next)
@@ -294,7 +293,7 @@ abbrev AreNear : (gap : ℕ) → (SegmentKey → List ℕ) → (line segment : �
 AreNear gap places line segment points = (k j : ℕ) → j ≡ segment + k
     → All (λ n. NearFirst gap n (drop k points)) (places (record { line = line; segment = j }))
 
-filled_tracks : (gap : ℕ) (places : SegmentKey → List ℕ) (line segment : ℕ) (from : Point) (coming : List Point) (p : TrackedPoint)
+filled_tracks : (gap : ℕ) (places : SegmentKey → List ℕ) (line segment : ℕ) (from : Option Point) (coming : List Point) (p : TrackedPoint)
     (points : List TrackedPoint) → AreNear gap places line segment (p ∷ points) → Tracks gap from coming (p ∷ points)
     → Tracks gap from coming (filled_from places line segment p points)
 filled_tracks gap places line segment from coming p [] near tracks = tracks
@@ -312,31 +311,17 @@ filled_tracks gap places line segment from coming p (q ∷ points) near tracks =
 
 -- a line that is worked on keeps near itself as drawn
 abbrev TracksLine : (gap : ℕ) → (drawn : List Point) → List TrackedPoint → Type 0
-TracksLine gap [] points = points ≡ []
-TracksLine gap (p ∷ drawn) points = Tracks gap p (p ∷ drawn) points
+TracksLine gap drawn points = Tracks gap None drawn points
 
 line_filled : (gap : ℕ) (places : SegmentKey → List ℕ) (line : ℕ) (drawn : List Point) (points : List TrackedPoint)
     → AreNear gap places line 0 points → TracksLine gap drawn points → TracksLine gap drawn (filled_points places line points)
 line_filled gap places line drawn [] near tracks = tracks
-line_filled gap places line [] (p ∷ points) near none = absurd (something p points none)
-  where
-    something : (p : TrackedPoint) (ps : List TrackedPoint) → p ∷ ps ≡ [] → ⊥
-    something p ps is = cc
-line_filled gap places line (d ∷ drawn) (p ∷ points) near tracks = filled_tracks gap places line 0 d (d ∷ drawn) p points near tracks
+line_filled gap places line drawn (p ∷ points) near tracks = filled_tracks gap places line 0 None drawn p points near tracks
 
 line_merged : (gap : ℕ) (drawn : List Point) (points : List TrackedPoint) → TracksLine gap drawn points
     → TracksLine gap drawn (merged_points points)
 line_merged gap drawn [] tracks = tracks
-line_merged gap [] (p ∷ points) none = absurd (something p points none)
-  where
-    something : (p : TrackedPoint) (ps : List TrackedPoint) → p ∷ ps ≡ [] → ⊥
-    something p ps is = cc
-line_merged gap (d ∷ drawn) (p ∷ points) tracks = merged_tracks gap d (d ∷ drawn) p points tracks
-
-line_tracks_moved : (gap : ℕ) (moves : List SpotMove) (block : ℕ) (drawn : List Point) (points : List TrackedPoint)
-    → TracksLine gap drawn points → TracksLine gap drawn (points_moved gap moves block points)
-line_tracks_moved gap moves block [] points none = ap (points_moved gap moves block) none
-line_tracks_moved gap moves block (d ∷ drawn) points tracks = moved_tracks gap moves block d (d ∷ drawn) points tracks
+line_merged gap drawn (p ∷ points) tracks = merged_tracks gap None drawn p points tracks
 
 -- lines that are worked on keep near themselves as drawn
 abbrev TracksLines : (gap : ℕ) → (drawn : List LineValue) → List TrackedLine → Type 0
@@ -360,7 +345,7 @@ round_tracks gap moves places index (line ∷ drawn) [] near never = absurd neve
 round_tracks gap moves places index (line ∷ drawn) (worked ∷ lines) near (block, tracks, others) = (
   block,
   line_merged gap line.points (points_moved gap moves worked.block (filled_points places index worked.points))
-      (line_tracks_moved gap moves worked.block line.points (filled_points places index worked.points)
+      (moved_tracks gap moves worked.block None line.points (filled_points places index worked.points)
       (line_filled gap places index line.points worked.points
       (λ k j is. subst (λ (m : ℕ). All (λ n. NearFirst gap n (drop k worked.points)) (places (record { line = index; segment = m })))
       (let back : k ≡ j = omega (arith, is) in back)
@@ -399,7 +384,7 @@ near_itself reach g = grind (arith, nat_tests)
 in_itself : (g : GridPoint) → IsIn (bounds_of_point g) g
 in_itself g = record { left = omega arith; right = omega arith; top = omega arith; bottom = omega arith }
 
-drawn_tracks : (gap : ℕ) (from p : Point) (rest : List Point) → Tracks gap from (p ∷ rest) (tracked_from p rest)
+drawn_tracks : (gap : ℕ) (from : Option Point) (p : Point) (rest : List Point) → Tracks gap from (p ∷ rest) (tracked_from p rest)
 drawn_tracks gap from p [] = inr (
   p,
   [],
@@ -428,28 +413,23 @@ drawn_tracks gap from p (q ∷ rest) = inr (
     begins = refl;
     ends = refl;
   },
-  drawn_tracks gap p q rest,
+  drawn_tracks gap (Some p) q rest,
 )
 
 line_drawn : (gap : ℕ) (points : List Point) → TracksLine gap points (tracked_points points)
 line_drawn gap [] = refl
-line_drawn gap (p ∷ rest) = drawn_tracks gap p p rest
+line_drawn gap (p ∷ rest) = drawn_tracks gap None p rest
 
 drawn_lines_track : (gap : ℕ) (lines : List LineValue) → TracksLines gap lines (tracked_lines lines)
 drawn_lines_track gap [] = refl
 drawn_lines_track gap (line ∷ rest) = (refl, line_drawn gap line.points, drawn_lines_track gap rest)
-
-line_near : (gap : ℕ) (drawn : List Point) (points : List TrackedPoint) → TracksLine gap drawn points
-    → StaysNearDrawn gap drawn (map (λ p. p.at) points)
-line_near gap [] points none = ap (map (λ (p : TrackedPoint). p.at)) none
-line_near gap (d ∷ drawn) points tracks = tracks_near gap d (d ∷ drawn) points tracks
 
 tracked_near : (gap : ℕ) (drawn : List LineValue) (lines : List TrackedLine) → TracksLines gap drawn lines
     → LinesStayNear gap drawn (lines_as_worked lines)
 tracked_near gap [] lines none = ap lines_as_worked none
 tracked_near gap (line ∷ drawn) [] never = never
 tracked_near gap (line ∷ drawn) (worked ∷ lines) (block, tracks, others) =
-    (block, line_near gap line.points worked.points tracks, tracked_near gap drawn lines others)
+    (block, tracks_near gap None line.points worked.points tracks, tracked_near gap drawn lines others)
 
 -- After all rounds lines stay near themselves as drawn.
 pub lines_near : RoundsKeepLinesNear

@@ -5,6 +5,8 @@ use Rattle.line_meetings.specs.Telling.{told}
 use Rattle.line_sections.specs.declared.spot.Spot.{Spot}
 use Rattle.line_sections.specs.Lines.{LineValue}
 use Rattle.line_sections.specs.Sections.{lines_through}
+use Rattle.line_meetings.specs.declared.meeting.MeetingKind.TheVariants as meeting
+use Rattle.meeting_rounds.specs.RoundLaws.{is_passed_over}
 use Rattle.meeting_rounds.specs.Rounds.{after_rounds}
 use Rattle.meeting_rounds.specs.TrackedLines.{lines_as_worked, tracked_lines}
 use Rattle.meeting_rounds.specs.declared.rounds.WorkedLines.{WorkedLines}
@@ -63,3 +65,10 @@ known_starts = refl
 -- with no round nothing changes
 pub known_none : Crosses 0 crossed crossed
 known_none = refl
+
+-- rounds pass over repeats and overlaps, and over crossings unless these are listed
+pub known_passed : (is_passed_over true meeting.Repeat ≡ true) × (is_passed_over true meeting.Overlap ≡ true)
+    × (is_passed_over false meeting.Crossing ≡ true) × (is_passed_over true meeting.Crossing ≡ false)
+    × (is_passed_over false meeting.ClosePoints ≡ false) × (is_passed_over false meeting.BesideSegment ≡ false)
+    × (is_passed_over false meeting.OnSegment ≡ false)
+known_passed = (refl, refl, refl, refl, refl, refl, refl)

@@ -1,15 +1,21 @@
--- Lines that have no meeting.
-use Rattle.std.proofs.Common.{◌≡◌, List, [], ◌∷◌, map, refl, ap, ◌∙◌, sym}
+-- Lines on whose meetings no round acts.
+use Rattle.std.proofs.Common.{◌≡◌, ℕ, Bool, true, false, not, List, [], ◌∷◌, map, refl, ap, ◌∙◌, sym, subst}
+use Rattle.std.specs.List.{list_all}
+use Rattle.design_model.proofs.ListLemmas.{false_true, first_true, second_true}
 use Rattle.design_model.specs.declared.point.Point.{Point}
 use Rattle.line_meetings.specs.Meetings.{meetings_of_lines}
 use Rattle.line_meetings.specs.declared.meeting.Meeting.{Meeting}
+use Rattle.line_meetings.specs.declared.meeting.MeetingKind.{MeetingKind}
+use Rattle.line_meetings.specs.declared.meeting.MeetingKind.TheVariants as meeting
 use Rattle.line_sections.specs.Lines.{LineValue}
-use Rattle.meeting_rounds.specs.Acts.{acts_next, no_acts}
+use Rattle.meeting_rounds.specs.Acts.{PlacedLists, acts_next, acts_on_crossing, acts_on_kind, no_acts}
 use Rattle.meeting_rounds.specs.MovedPoints.{tracked_at}
-use Rattle.meeting_rounds.specs.RoundLaws.{LinesWithoutMeetingsStay, UnworkedLinesAreDrawn, unworked}
+use Rattle.meeting_rounds.specs.RoundLaws.{LinesAtRestStay, UnworkedLinesAreDrawn, is_passed_over, unworked}
 use Rattle.meeting_rounds.specs.Rounds.{round_acts, settled_lines}
 use Rattle.meeting_rounds.specs.TrackedLines.{lines_as_worked, tracked_from, tracked_lines, tracked_points}
+use Rattle.meeting_rounds.specs.declared.acts.Acts.{Acts}
 use Rattle.meeting_rounds.specs.declared.rounds.TheConstants.{MAX_ROUNDS}
+use Rattle.meeting_rounds.specs.declared.tracked_lines.TrackedLine.{TrackedLine}
 use Rattle.meeting_rounds.specs.declared.tracked_lines.TrackedPoint.{TrackedPoint}
 use Rattle.meeting_rounds.proofs.RoundLemmas.{idle_stays}
 
@@ -29,11 +35,34 @@ lines_drawn (line ∷ rest) =
     (points_drawn line.points)
     ∙ ap (λ (lines : List LineValue). line ∷ lines) (lines_drawn rest)
 
--- Lines without a meeting stay.
-pub lines_stay : LinesWithoutMeetingsStay
+module _ (lists : Bool) (gap : ℕ) (placed : PlacedLists) (lines : List TrackedLine) where
+  kind_idle : (acts : Acts) (m : Meeting) (kind : MeetingKind) → is_passed_over lists kind ≡ true
+      → acts_on_kind lists gap placed lines acts m kind ≡ acts
+  kind_idle acts m meeting.ClosePoints is = absurd (false_true is)
+  kind_idle acts m meeting.BesideSegment is = absurd (false_true is)
+  kind_idle acts m meeting.OnSegment is = absurd (false_true is)
+  kind_idle acts m meeting.Crossing is = by_test lists is
+    where
+      by_test : (b : Bool) → not b ≡ true → acts_on_crossing b gap lines acts m ≡ acts
+      by_test true never = absurd (false_true never)
+      by_test false stays = refl
+  kind_idle acts m meeting.Overlap is = refl
+  kind_idle acts m meeting.Repeat is = refl
+
+  -- Meetings that are passed over change no acts.
+  all_idle : (acts : Acts) (ms : List Meeting) → list_all (λ m. is_passed_over lists m.kind) ms ≡ true
+      → acts_next lists gap placed lines acts ms ≡ acts
+  all_idle acts [] idle = refl
+  all_idle acts (m ∷ rest) idle =
+      ap (λ (a : Acts). acts_next lists gap placed lines a rest) (kind_idle acts m m.kind (first_true _ _ idle))
+      ∙ all_idle acts rest (second_true _ _ idle)
+
+-- Lines on whose meetings no round acts stay.
+pub lines_stay : LinesAtRestStay
 unfolding settled_lines
-lines_stay = λ lists gap lines starts ends none.
-    let idle : no_acts ≡ round_acts lists gap (tracked_lines lines) =
-    ap (λ (ms : List Meeting). acts_next lists gap (tracked_at (tracked_lines lines)) (tracked_lines lines) no_acts ms)
-    (sym none ∙ ap (λ (ls : List LineValue). meetings_of_lines gap ls) (sym (lines_drawn lines))) in
-    idle_stays MAX_ROUNDS lists gap (unworked lines starts ends) no_acts idle refl
+lines_stay = λ lists gap lines starts ends idle.
+    let none : no_acts ≡ round_acts lists gap (tracked_lines lines) =
+    sym (all_idle lists gap (tracked_at (tracked_lines lines)) (tracked_lines lines) no_acts (meetings_of_lines gap (lines_as_worked (tracked_lines lines)))
+    (subst (λ (ls : List LineValue). list_all (λ m. is_passed_over lists m.kind) (meetings_of_lines gap ls) ≡ true)
+    (sym (lines_drawn lines)) idle)) in
+    idle_stays MAX_ROUNDS lists gap (unworked lines starts ends) no_acts none refl

@@ -18,5 +18,5 @@ mod tracked_lines;
 
 pub use point_bounds::PointBounds;
 pub use rounds::{MAX_ROUND_GAP, MAX_ROUNDS, WorkedLines, settled};
-pub use theorems::{lines_without_meetings_stay, rounds_keep_lines_near};
+pub use theorems::{lines_at_rest_stay, rounds_keep_lines_near};
 pub use tracked_lines::{TrackedLine, TrackedPoint, lines_of, tracked};

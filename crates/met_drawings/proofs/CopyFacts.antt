@@ -1,7 +1,6 @@
 -- Worked values of lines without copies, in tenths of a millimetre.
-use Rattle.std.proofs.Common.{◌≡◌, ℕ, pos, List, [], ◌∷◌, ◌++◌, refl}
+use Rattle.std.proofs.Common.{◌≡◌, ℕ, pos, [], ◌∷◌, ◌++◌, refl}
 use Rattle.design_model.specs.declared.point.Point.{Point}
-use Rattle.line_sections.specs.Lines.{LineValue}
 use Rattle.line_sections.specs.Sections.{lines_through}
 use Rattle.met_drawings.specs.Copies.{passed_segment, uncopied_lines}
 use Rattle.met_drawings.specs.SegmentLaws.{first_segments}

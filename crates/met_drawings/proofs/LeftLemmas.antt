@@ -2,19 +2,14 @@
 use Rattle.std.proofs.Common.{◌≡◌, ℕ, Bool, true, false, List, [], ◌∷◌, ◌++◌, refl, ap, ◌∙◌, sym, length, nat_le, arith}
 use Rattle.std.proofs.lemmas.Bool.Decides.{nat_tests}
 use Rattle.std.proofs.lemmas.List.{append_assoc, append-nil}
-use Rattle.std.specs.List.{flat_map}
 use Rattle.std.specs.Prelude.{if◌then◌else◌, ◌&&◌}
 use Rattle.design_model.specs.declared.point.Point.{Point}
 use Rattle.line_sections.specs.Lines.{LineValue}
-use Rattle.met_drawings.specs.Copies.{part_after, part_if, parts_from, parts_of, passed_by, passed_from, passed_segment, uncopied_after, uncopied_lines}
+use Rattle.meeting_rounds.specs.NearLines.{last_of}
+use Rattle.met_drawings.specs.Copies.{part_after, part_if, parts_from, parts_of, passed_by, passed_from, passed_segment, uncopied_after}
 use Rattle.met_drawings.specs.PassedSegments.{is_passed_in}
 use Rattle.met_drawings.specs.SegmentLaws.{SegmentsAreLeftOnce, first_segments, segments_passed}
 use Rattle.met_drawings.specs.declared.passed_segments.PassedSegment.{PassedSegment}
-
--- the last of points, or the given one
-abbrev last_of : Point → List Point → Point
-last_of p [] = p
-last_of p (q ∷ rest) = last_of q rest
 
 last_more : (p q : Point) (points : List Point) → last_of p (points ++ q ∷ []) ≡ q
 last_more p q [] = refl

@@ -7,3 +7,5 @@ pub mod PassedSegments
 -- Read this one first: lines without copies of segments.
 pub mod Copies
 pub mod SegmentLaws
+-- Read this one next: laws of what is written.
+pub mod MeetLaws

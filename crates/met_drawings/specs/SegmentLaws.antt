@@ -22,3 +22,8 @@ first_segments passed (s ∷ rest) =
 abbrev pub SegmentsAreLeftOnce : Type 0
 SegmentsAreLeftOnce = (lines : List LineValue)
     → segments_passed (uncopied_lines lines) ≡ first_segments [] (segments_passed lines)
+
+-- Lines without copies stay as they are.
+abbrev pub LinesWithoutCopiesStay : Type 0
+LinesWithoutCopiesStay = (lines : List LineValue)
+    → uncopied_lines (uncopied_lines lines) ≡ uncopied_lines lines

@@ -13,4 +13,6 @@ pub use listed_meetings::MeetingRule;
 pub use meet_fault::{MeetFault, VanishedLine};
 pub use meeting::{MetDrawing, meet};
 pub use meeting_counts::MeetingCounts;
-pub use theorems::segments_are_left_once;
+pub use theorems::{
+    left_meetings_are_found, lines_that_meet_stay, segments_are_left_once, written_lines_stay_near,
+};

@@ -1,14 +1,18 @@
 ghost use Rattle.design_model.specs.OutOfMemory.{IsSpecified};
 ghost use Rattle.line_graph.specs.JoinedDrawings.{joined_drawing};
 ghost use Rattle.line_graph.specs.WalkEnds.{HasNoEnds};
+ghost use Rattle.met_drawings.specs.MeetLaws.{is_near_one};
+ghost use Rattle.met_drawings.specs.MeetingCounts.{left_count};
 ghost use Rattle.met_drawings.specs.MetDrawings.{lines_met, meet_is_out_of_memory, met_after, met_of};
 ghost use Rattle.meeting_rounds.specs.declared.rounds.TheConstants.{MAX_ROUND_GAP};
-ghost use Rattle.std.specs.Prelude.{◌≡◌, ◌≤◌, IfOk, Ok, map};
+ghost use Rattle.std.specs.List.{list_all};
+ghost use Rattle.std.specs.Prelude.{◌≡◌, ◌≤◌, IfOk, Ok, map, true};
 
 use crate::copies::part_counts;
 use crate::listed_meetings::{MeetingRule, first_vanished, kept, settled_drawn};
 use crate::meet_fault::MeetFault;
 use crate::meeting_counts::{MeetingCounts, counts};
+use crate::theorems::{left_meetings_are_found, written_lines_stay_near};
 use design_model::Items;
 use drawing_edits::{draw_lines, joined_with_ends};
 use line_graph::{Drawing, Line, Spot};
@@ -48,7 +52,13 @@ pub fn meet(
         map (λ s. s.block) met.joined.starts ≡ map (λ s. s.block) starts.now) }
     ensures ends { IfOk result (λ met.
         map (λ s. s.block) met.joined.ends ≡ map (λ s. s.block) ends.now) }
+    ensures near { IfOk result (λ met.
+        list_all (is_near_one rule.gap d.now.lines) met.drawn.lines ≡ true) }
+    ensures left { IfOk result (λ met. met.counts.left ≡ left_count rule met.drawn.lines) }
 {
+    d.keeps_limits();
+    written_lines_stay_near();
+    left_meetings_are_found();
     let worked = settled_drawn(alloc, rule, d.lines(), starts, ends)?;
     let met = met_by(alloc, rule, d, &worked)?;
     Ok(met)

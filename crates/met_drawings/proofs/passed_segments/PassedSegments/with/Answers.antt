@@ -1,4 +1,3 @@
-use Rattle.std.proofs.Common.{rules}
 use Rattle.std.specs.HashSet.{contains}
 use Rattle.met_drawings.specs.PassedSegments.{is_same_passed}
 use Rattle.met_drawings.proofs.PassedLemmas.{passed_with}

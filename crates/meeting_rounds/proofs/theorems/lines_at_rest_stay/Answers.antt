@@ -1,5 +1,5 @@
 use Rattle.meeting_rounds.proofs.StayLemmas.{lines_drawn, lines_stay}
-use Rattle.meeting_rounds.proofs.theorems.lines_without_meetings_stay.Goals as goal
+use Rattle.meeting_rounds.proofs.theorems.lines_at_rest_stay.Goals as goal
 
 pub returns-clause-drawn : goal.returns-clause-drawn
 returns-clause-drawn c = lines_drawn
