@@ -1048,6 +1048,60 @@ row("crossed lines that are refused", {
     refused("stitch_drawing cross a.rw c.rw", "a.rw: more than 1024 lines after cutting: split the drawing"),
     refused("stitch_drawing cross b.rw c.rw", "b.rw: start or end repeated"))
 
+
+def row_of_meeting(title, command, lines, said, after, pieces):
+    """Lines that are made to meet, and a second run, which changes nothing: the command, the lines as drawn and after it, what
+    was done, and the pieces before and after. Lines without a colour are one block."""
+    def drawing(drawn):
+        return rw(2, "step 25", *[] if drawn[0].startswith("color") else ["color 1"], *drawn)
+
+    quiet = "crossings 0" if command == "cross" else "moved 0"
+    row(f"lines that meet: {title}", {"a.rw": drawing(lines)},
+        done(f"stitch_drawing {command} a.rw b.rw", f"{said} left 0 pieces {pieces[0]} to {pieces[1]}\n", {"b.rw": drawing(after)}),
+        done(f"stitch_drawing {command} b.rw c.rw", f"{quiet} listed 0 dropped 0 left 0 pieces {pieces[1]} to {pieces[1]}\n",
+             {"c.rw": drawing(after)}))
+
+
+row_of_meeting("ends on both sides of a line", "snap 2", ["line 0 0 100 0", "line 50 2 50 50", "line 50 -2 50 -50"],
+               "moved 2 listed 1 dropped 0", ["line 0 0 50 0 100 0", "line 50 0 50 50", "line 50 0 50 -50"], (3, 1))
+row_of_meeting("a point inside a line on another", "snap 0", ["line 0 0 100 0", "line 20 30 50 0 80 30"],
+               "moved 0 listed 1 dropped 0", ["line 0 0 50 0 100 0", "line 20 30 50 0 80 30"], (2, 1))
+row_of_meeting("lines that share a part", "snap 0", ["line 0 0 100 0", "line 60 0 160 0"],
+               "moved 0 listed 2 dropped 1", ["line 0 0 60 0 100 0", "line 100 0 160 0"], (2, 1))
+row_of_meeting("an end beside its own line", "snap 2", ["line 0 0 100 0 100 50 40 50 40 1"],
+               "moved 1 listed 1 dropped 0", ["line 0 0 40 0 100 0 100 50 40 50 40 0"], (1, 1))
+# Each end is 2 below a point of the path that is on it, at a slope of 1 in 4: the path stays straight.
+row_of_meeting("twenty hatches that end on a path", "snap 2",
+               ["line 0 0 400 100", *[f"line {20 * i + 12} {5 * i + 5} {20 * i + 12} {5 * i + 93}" for i in range(20)]],
+               "moved 20 listed 20 dropped 0",
+               ["line 0 0 " + " ".join(f"{20 * i + 12} {5 * i + 3}" for i in range(20)) + " 400 100",
+                *[f"line {20 * i + 12} {5 * i + 3} {20 * i + 12} {5 * i + 93}" for i in range(20)]], (21, 1))
+# Parallels 3 apart are a tenth and a half from each other on the larger axis, and 6 apart are 3.
+DIAGONALS = [[f"line {apart * i} 0 {80 + apart * i} 80" for i in range(1024)] for apart in (3, 6)]
+row_of_meeting("1,024 diagonals, none within 1 of another", "snap 1", DIAGONALS[0], "moved 0 listed 0 dropped 0", DIAGONALS[0],
+               (1024, 1024))
+row_of_meeting("1,024 diagonals, none within 2 of another", "snap 2", DIAGONALS[1], "moved 0 listed 0 dropped 0", DIAGONALS[1],
+               (1024, 1024))
+# Neighbours on the curve are within the gap, and are joined.
+CURVE = ["line 0 0 2 0 4 0 6 1 8 2 9 4 10 6 10 8 10 10"]
+row_of_meeting("a curve of points as close as the gap", "snap 2", CURVE, "moved 0 listed 0 dropped 0", CURVE, (1, 1))
+TWO_BLOCKS = ["color 1", "line 0 0 40 0", "color 2", "line 20 1 20 40", "line 10 -10 10 10"]
+row_of_meeting("lines of two blocks, within the gap", "snap 2", TWO_BLOCKS, "moved 0 listed 0 dropped 0", TWO_BLOCKS, (3, 3))
+row_of_meeting("lines of two blocks that cross", "cross", TWO_BLOCKS, "crossings 0 listed 0 dropped 0", TWO_BLOCKS, (3, 3))
+# The third one crosses at 20 and a half.
+row_of_meeting("a line that crosses three", "cross", ["line 0 0 100 0", "line 10 -10 10 10", "line 30 -10 30 10", "line 20 -10 21 10"],
+               "crossings 3 listed 6 dropped 0", ["line 0 0 10 0 21 0 30 0 100 0", "line 10 -10 10 0 10 10", "line 30 -10 30 0 30 10",
+                                                  "line 20 -10 21 0 21 10"], (4, 1))
+# Five parallels, each nearer than the gap to the next: in three rounds they become one piece, and two points are left beside
+# segments, since what they stand for lies too far from there.
+row("lines that meet: five diagonals within 2 of each other", {
+    "a.rw": rw(2, "step 25", "color 1", *[f"line {3 * i} 0 {80 + 3 * i} 80" for i in range(5)]),
+    "b.rw": rw(2, "step 25", "color 1", *DIAGONALS[0])},
+    done("stitch_drawing snap 2 a.rw c.rw", "moved 8 listed 17 dropped 11 left 2 pieces 5 to 1\n", {"c.rw": rw(
+        2, "step 25", "color 1", "line 0 0 2 2 4 3 6 5 85 77", "line 6 5 9 5 85 77 87 78", "line 87 78 89 78", "line 89 78 91 79",
+        "line 9 5 89 78", "line 91 79 92 80")}),
+    refused("stitch_drawing snap 2 b.rw d.rw", "b.rw: more than 1024 lines after cutting: split the drawing"))
+
 row("a spaced line", {"a.rw": rw(3, "step 25", "color 1", "line 0 0 6 0 12 1 18 1 24 1 30 2 36 3 42 4 48 5")},
     done("stitch_drawing space a.rw b.rw",
          "points 9 to 3 stitches 8 to 2 shortest 6 to 24 longest 6 to 24 pieces 1\n",
