@@ -26,6 +26,10 @@ pub const FILES: &[(&str, &str)] = &[
         "redwork 2\nstep 25\ncolor 1\n# first\nline 0 0 20 0 40 0 60 0\n# second\nline 0 30 20 0 40 0 60 30\n",
     ),
     (
+        "three.rw",
+        "redwork 2\nstep 25\ncolor 1\nline 0 0 100 0\nline 10 -10 10 10\nline 30 -10 30 10\nline 20 -10 21 10\ncolor 2\nline 50 -10 50 10\n",
+    ),
+    (
         "starts.rw",
         "redwork 3\nstep 25\ncolor 1\nline 0 0 100 50\nline 30 90 40 0\nstart 0 0\nstart 30 90\n",
     ),
@@ -64,6 +68,9 @@ pub const RUNS: &[Run] = &[
     done!("cross said.rw out.rw --keep" =>
         "crossings 0 listed 0 dropped 0 left 0 pieces 1 to 1\n",
         "redwork 2\nstep 25\ncolor 1\n# first\nline 0 0 20 0 40 0 60 0\n# second\nline 0 30 20 0 40 0 60 30\n"),
+    done!("cross three.rw out.rw" =>
+        "crossings 3 listed 6 dropped 0 left 0 pieces 5 to 2\n",
+        "redwork 2\nstep 25\ncolor 1\nline 0 0 10 0 21 0 30 0 100 0\nline 10 -10 10 0 10 10\nline 30 -10 30 0 30 10\nline 20 -10 21 0 21 10\ncolor 2\nline 50 -10 50 10\n"),
     refused!("cross starts.rw out.rw" => "stitch_drawing: starts.rw: start or end repeated\n"),
     refused!("cross bad.rw out.rw" => "stitch_drawing: bad.rw: line 3: too few points\n"),
     faulted!("cross none.rw out.rw" => "stitch_drawing: cannot read none.rw\n"),

@@ -54,6 +54,14 @@ pub const FILES: &[(&str, &str)] = &[
         "redwork 2\nstep 25\n# red\ncolor 1\n# long\nline 0 0 100 0\n# over it\nline 60 0 160 0 160 40\n# again\nline 0 0 60 0\n# apart\nline 0 90 40 90\n",
     ),
     (
+        "hatch.rw",
+        "redwork 2\nstep 25\ncolor 1\nline 0 0 100 25\nline 12 5 12 60\nline 32 10 32 60\nline 52 15 52 60\nline 72 16 72 -30\n",
+    ),
+    (
+        "curve.rw",
+        "redwork 2\nstep 25\ncolor 1\nline 0 0 2 0 4 0 6 1 8 2 9 4 10 6 10 8 10 10\n",
+    ),
+    (
         "pair.rw",
         "redwork 2\nstep 25\ncolor 1\nline 0 0 40 0\nline 40 1 0 1\n",
     ),
@@ -106,7 +114,14 @@ pub const RUNS: &[Run] = &[
         "moved 1 listed 1 dropped 0 left 0 pieces 1 to 1\n",
         "redwork 2\nstep 25\ncolor 1\nline 0 0 40 0 100 0 100 50 40 50 40 0\n"),
     done!("snap 2 five.rw out.rw" =>
-        "moved 8 listed 17 dropped 11 left 2 pieces 5 to 1\n"),
+        "moved 8 listed 17 dropped 11 left 2 pieces 5 to 1\n",
+        "redwork 2\nstep 25\ncolor 1\nline 0 0 2 2 4 3 6 5 85 77\nline 6 5 9 5 85 77 87 78\nline 87 78 89 78\nline 89 78 91 79\nline 9 5 89 78\nline 91 79 92 80\n"),
+    done!("snap 2 hatch.rw out.rw" =>
+        "moved 4 listed 4 dropped 0 left 0 pieces 5 to 1\n",
+        "redwork 2\nstep 25\ncolor 1\nline 0 0 12 3 32 8 52 13 72 18 100 25\nline 12 3 12 60\nline 32 8 32 60\nline 52 13 52 60\nline 72 18 72 -30\n"),
+    done!("snap 2 curve.rw out.rw" =>
+        "moved 0 listed 0 dropped 0 left 0 pieces 1 to 1\n",
+        "redwork 2\nstep 25\ncolor 1\nline 0 0 2 0 4 0 6 1 8 2 9 4 10 6 10 8 10 10\n"),
     done!("snap 2 pair.rw out.rw" =>
         "moved 2 listed 0 dropped 1 left 0 pieces 2 to 1\n",
         "redwork 2\nstep 25\ncolor 1\nline 0 1 40 1\n"),
