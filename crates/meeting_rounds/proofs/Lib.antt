@@ -6,5 +6,6 @@ pub mod SpotLemmas
 pub mod RoundLemmas
 pub mod StayLemmas
 mod PutLemmas
+mod TrackLemmas
 mod NearLemmas
 mod NearPointLemmas
