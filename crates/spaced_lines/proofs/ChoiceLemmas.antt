@@ -115,7 +115,7 @@ begun stays rule p nearest after bests room n is least some = by (least_of room 
         (sym (drop_all (n + 1) after (omega (arith, all, least, some)))) refl
 
 -- the best choice with the stitches that leave out one point fewer
-next_over : (stays : Point → Bool) (rule : SpacingRule) (p : Point) (nearest : Best) (after : List Point) (bests : List Best) (n : ℕ)
+pub next_over : (stays : Point → Bool) (rule : SpacingRule) (p : Point) (nearest : Best) (after : List Point) (bests : List Best) (n : ℕ)
     (b : Point) (from : Best) → n < length after → length bests ≡ length after
     → best_over stays rule p nearest (take n after) (drop n after) (drop n bests)
     ≡ better_with stays rule p (take n after) (get_or after n b) (get_or bests n from)

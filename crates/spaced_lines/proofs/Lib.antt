@@ -4,6 +4,7 @@ mod SpacedAnswerFacts
 mod SpacingLawFacts
 pub mod JunctionLemmas
 pub mod BestLemmas
+pub mod ChainLemmas
 pub mod ChoiceLemmas
 pub mod ReversedLemmas
 pub mod SpacingLemmas

@@ -1,7 +1,8 @@
 -- The table of the best choices of points, from the last point of a line to its first. A choice
 -- from a point on has a first stitch and is best from the end of that one on.
-use Rattle.std.specs.Prelude.{ℕ, zero, suc, ◌+◌, ◌*◌, ◌^◌, ◌≤◌, ◌==◌, min, Bool, ◌&&◌, ◌||◌, nat_lt, List, [], ◌∷◌, ◌++◌, length, if◌then◌else◌}
+use Rattle.std.specs.Prelude.{ℕ, zero, suc, ◌+◌, ◌*◌, ◌^◌, ◌≤◌, ◌==◌, min, Bool, true, ◌&&◌, ◌||◌, ◌<◌, ◌≡◌, nat_lt, List, [], ◌∷◌, ◌++◌, drop, get_or, length, take, if◌then◌else◌}
 use Rattle.design_model.specs.Lengths.{square_of}
+use Rattle.design_model.specs.Points.{origin}
 use Rattle.design_model.specs.declared.point.Point.{Point}
 use Rattle.spaced_lines.specs.SpacingRules.{may_leave_out}
 use Rattle.spaced_lines.specs.declared.best.Best.{Best}
@@ -41,6 +42,11 @@ module _ (stays : Point → Bool) (rule : SpacingRule) where
   best_over p nearest out (b ∷ rest) (from ∷ later) =
       better_with p out b from (best_over p nearest (out ++ b ∷ []) rest later)
 
+  -- The best of one choice from p on and of those that leave out at least n points.
+  abbrev pub best_leaving : (p : Point) → Best → List Point → List Best → (n : ℕ) → Best
+  best_leaving p nearest after bests n =
+      best_over p nearest (take n after) (drop n after) (drop n bests)
+
   -- The best choice from p on, where the best ones from the points after it on are given.
   abbrev pub best_from : (p : Point) → List Point → List Best → Best
   best_from p [] bests = no_stitch
@@ -73,6 +79,18 @@ room_after stays room = if stays then 0 else min (room + 1) MAX_LEFT_OUT
 abbrev pub room_of : (Point → Bool) → List Point → ℕ
 room_of stays [] = 0
 room_of stays (p ∷ rest) = room_after (stays p) (room_of stays rest)
+
+-- The choice whose first stitch leads from p to the point with an index, and leaves out those before
+-- it.
+abbrev pub choice_at : (p : Point) → List Point → List Best → ℕ → Best
+choice_at p after bests k = best_with p (get_or after k origin) k (get_or bests k no_stitch)
+
+-- A choice is better than another one, and than all that leave out more points, up to n.
+pub record IsChainEnd (p : Point) (after : List Point) (bests : List Best) (n : ℕ) (other : Best)
+    (end : ℕ) : Type 0 where
+  pub than_other : is_better (choice_at p after bests end) other ≡ true
+  pub than_each : (k : ℕ) → end < k → k ≤ n
+      → is_better (choice_at p after bests end) (choice_at p after bests k) ≡ true
 
 -- The numbers of a choice with at most n stitches.
 pub record IsWithin (n : ℕ) (best : Best) : Type 0 where

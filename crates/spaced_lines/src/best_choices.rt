@@ -1,7 +1,8 @@
 ghost use Rattle.design_model.specs.declared.point.Point.{Point as PointValue};
 ghost use Rattle.line_sections.specs.Spots.{is_same_spot};
-ghost use Rattle.spaced_lines.specs.BestChoices.{IsWithin, best_from, best_over, bests_of, better_with, room_after, room_of};
+ghost use Rattle.spaced_lines.specs.BestChoices.{IsChainEnd, IsWithin, best_from, best_leaving, best_over, bests_of, better_with, room_after, room_of};
 ghost use Rattle.spaced_lines.specs.SpacedLines.{is_spot_of};
+ghost use Rattle.spaced_lines.specs.declared.best.Best.{Best as BestValue};
 ghost use Rattle.spaced_lines.specs.SpacingRules.{distance_between, does_none_stay};
 ghost use Rattle.std.specs.HashSet.{contains};
 ghost use Rattle.std.specs.Prelude.{◌≡◌, ℕ, ◌+◌, ◌≤◌, ◌<◌, Bool, true, ◌&&◌, All, IfOk, drop, length, nat_le, nat_lt, take};
@@ -87,14 +88,137 @@ fn best_beyond(
     ensures value { (stays : PointValue → Bool) → room ≡ room_of stays after.now
         → result ≡ best_over stays rule p nearest (take 1 after.now) (drop 1 after.now) (drop 1 bests.now) }
 {
-    let mut best = nearest;
-    let mut far = 0;
-    let mut n = room.min(after.len() - 1);
-    while n > 0 {
-        best = better(rule, p, &after[..n], after[n], &bests[n], best, &mut far);
-        n -= 1;
+    let mut tried = Tried {
+        best: nearest,
+        left: room.min(after.len() - 1),
+        alone: 0,
+        far: 0,
+    };
+    while tried.left > 0 {
+        tried = tried_further(rule, p, after, bests, tried);
     }
-    best
+    tried.best
+}
+
+/// The best choice so far, of those whose first stitch leaves out more than `left` points; how many of the next ones are
+/// tried one by one; and the index of the point that was last in the way of a stitch.
+#[derive(Clone, Copy)]
+struct Tried {
+    best: Best,
+    left: usize,
+    alone: usize,
+    far: usize,
+}
+
+/// Tries the choice whose first stitch leaves out as many points as are left; or the end of a chain of choices, which
+/// is better than all before it, so that these are passed over.
+fn tried_further(
+    rule: SpacingRule,
+    p: Point,
+    after: &[Point],
+    bests: &[Best],
+    tried: Tried,
+) -> Tried
+    requires some { 1 ≤ tried.left }
+    requires there { tried.left < length after.now }
+    requires most { tried.left ≤ MAX_LEFT_OUT }
+    requires sized { length bests.now ≡ length after.now }
+    requires few { length after.now < MAX_POINTS }
+    requires within { All (IsWithin (length after.now)) bests.now }
+    requires near { IsWithin (length after.now + 1) tried.best }
+    ensures less { result.left < tried.left }
+    ensures within { IsWithin (length after.now + 1) result.best }
+    ensures value { (stays : PointValue → Bool) (nearest : BestValue) → tried.left ≤ room_of stays after.now
+        → tried.best ≡ best_leaving stays rule p nearest after.now bests.now (tried.left + 1)
+        → result.best ≡ best_leaving stays rule p nearest after.now bests.now (result.left + 1) }
+{
+    if tried.alone > 0 {
+        return tried_alone(rule, p, after, bests, tried, tried.alone - 1);
+    }
+    let end = chain_end(p, after, bests, tried.left, &tried.best);
+    let mut far = tried.far;
+    if end < tried.left && is_stitch(rule, p, after[end], &after[..end], &mut far) {
+        return Tried {
+            best: bests[end].with(p, after[end], end),
+            left: end - 1,
+            alone: 0,
+            far,
+        };
+    }
+    let alone = tried.left - end;
+    tried_alone(rule, p, after, bests, Tried { far, ..tried }, alone)
+}
+
+/// Tries the choice whose first stitch leaves out as many points as are left. Then the given number of choices are
+/// tried one by one.
+fn tried_alone(
+    rule: SpacingRule,
+    p: Point,
+    after: &[Point],
+    bests: &[Best],
+    tried: Tried,
+    alone: usize,
+) -> Tried
+    requires some { 1 ≤ tried.left }
+    requires there { tried.left < length after.now }
+    requires most { tried.left ≤ MAX_LEFT_OUT }
+    requires sized { length bests.now ≡ length after.now }
+    requires few { length after.now < MAX_POINTS }
+    requires within { All (IsWithin (length after.now)) bests.now }
+    requires near { IsWithin (length after.now + 1) tried.best }
+    ensures less { result.left < tried.left }
+    ensures within { IsWithin (length after.now + 1) result.best }
+    ensures value { (stays : PointValue → Bool) (nearest : BestValue) → tried.left ≤ room_of stays after.now
+        → tried.best ≡ best_leaving stays rule p nearest after.now bests.now (tried.left + 1)
+        → result.best ≡ best_leaving stays rule p nearest after.now bests.now (result.left + 1) }
+{
+    let n = tried.left;
+    let mut far = tried.far;
+    let best = better(
+        rule,
+        p,
+        &after[..n],
+        after[n],
+        &bests[n],
+        tried.best,
+        &mut far,
+    );
+    Tried {
+        best,
+        left: n - 1,
+        alone,
+        far,
+    }
+}
+
+/// So many choices at most are passed over at once.
+const MAX_CHAIN: usize = 16;
+
+/// Returns the end of a chain of choices, which is better than all of them and than another choice: the first leaves
+/// out n points, and each next one point fewer. Returns n where there is no chain.
+fn chain_end(p: Point, after: &[Point], bests: &[Best], n: usize, other: &Best) -> usize
+    requires there { n < length after.now }
+    requires sized { length bests.now ≡ length after.now }
+    requires few { length after.now < MAX_POINTS }
+    requires within { All (IsWithin (length after.now)) bests.now }
+    ensures most { result ≤ n }
+    ensures some { 1 ≤ n → 1 ≤ result }
+    ensures end { result < n → IsChainEnd p after.now bests.now n other.now result }
+{
+    let mut last = bests[n].with(p, after[n], n);
+    if !last.is_better(other) {
+        return n;
+    }
+    let mut end = n;
+    while end > 1 && n - end < MAX_CHAIN {
+        let next = bests[end - 1].with(p, after[end - 1], end - 1);
+        if !next.is_better(&last) {
+            return end;
+        }
+        last = next;
+        end -= 1;
+    }
+    end
 }
 
 /// Returns the choice whose first stitch leads from `p` to `b` and leaves out points, where it is better than
