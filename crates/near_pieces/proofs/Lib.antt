@@ -5,6 +5,7 @@ pub mod RunLemmas
 pub mod NearLemmas
 pub mod PieceSpanLemmas
 pub mod PieceOrderLemmas
+pub mod DrawnWholeLemmas
 pub mod WalkCostLemmas
 pub mod SameWalkLemmas
 mod TravelFacts

@@ -1,6 +1,7 @@
 -- Worked values of places of pieces, of their starts and of runs, and what is refuted.
 use Rattle.std.proofs.Common.{◌≡◌, ℤ, ℕ, pos, List, [], ◌∷◌, Option, Some, None, Err, true, false, map, refl}
 use Rattle.near_pieces.proofs.Names.{AreNearLines, AreNearOrders, DrawingValue, IsFoundFrom, IsLesser, LineValue, NearDrawing, Point, Spot, are_in_order, lines_numbered}
+use Rattle.near_pieces.specs.NearDrawings.{are_drawn_whole}
 use Rattle.near_pieces.specs.PiecePlaces.{place_between, starts_between}
 use Rattle.line_graph.specs.declared.draw_kind.DrawKind.TheVariants as kind
 
@@ -41,6 +42,12 @@ line_in block = record { block = block; points = corners }
 pub known_lines : lines_numbered (line_in 0 ∷ line_in 1 ∷ []) (1 ∷ 0 ∷ 5 ∷ []) ≡ line_in 1 ∷ line_in 0 ∷ []
 known_lines = refl
 
+-- Lines are drawn whole where they are in the order of their blocks and as many; a cut line isn't, and neither is a block too early.
+pub known_whole : (d : DrawingValue)
+    → map (λ lines. are_drawn_whole lines (record d { lines = line_in 0 ∷ line_in 1 ∷ [] }))
+    ((line_in 0 ∷ line_in 1 ∷ []) ∷ (line_in 0 ∷ []) ∷ (line_in 1 ∷ line_in 0 ∷ []) ∷ []) ≡ true ∷ false ∷ false ∷ []
+known_whole d = refl
+
 -- Without pieces there are no lines, and no start.
 pub no_piece_has_a_line : (new : List LineValue) (starts : List Spot) → AreNearLines [] None [] new starts → new ≡ []
 no_piece_has_a_line new starts are = are.lines_are
@@ -53,7 +60,7 @@ pub no_order_is_left : AreNearOrders None [] ([] ∷ []) → ⊥
 no_order_is_left is = is
 
 -- The drawing stays where the other one can't be drawn, and then its travel does.
-pub kept_travel : (d : DrawingValue) (found : NearDrawing) → IsFoundFrom d (Err kind.Memory) found → found.after ≡ found.before
+pub kept_travel : (d : DrawingValue) (found : NearDrawing) → IsFoundFrom d [] (Err kind.Memory) found → found.after ≡ found.before
 kept_travel d found is = is.1
 
 -- The lesser one is taken.

@@ -1,17 +1,17 @@
 -- What the laws of near lines exclude. Costs count steps.
-use Rattle.std.proofs.Common.{◌≡◌, ◌≢◌, ◌≤◌, ◌<◌, ℕ, true, false, List, [], ◌∷◌, Some, None, pos, length, All, refl, ap, sym, arith}
+use Rattle.std.proofs.Common.{◌≡◌, ◌≢◌, ◌≤◌, ◌<◌, ℕ, true, false, List, [], ◌∷◌, Some, None, pos, length, All, refl, ap, subst, sym, arith}
 use Rattle.std.proofs.lemmas.Bool.{and_parts}
 use Rattle.std.specs.List.{concat}
 use Rattle.line_graph.proofs.CallerLemmas.{stays_lost}
 use Rattle.line_graph.specs.Drawings.{KeepsDrawingLimits}
 use Rattle.line_graph.specs.PieceGraphs.{PieceValue, piece_graph}
-use Rattle.line_graph.specs.PiecesOfDrawings.{ArePiecesOf}
+use Rattle.line_graph.specs.PiecesOfDrawings.{ArePiecesOf, lines_of_pieces}
 use Rattle.line_graph.specs.PieceWalks.{IsLeastWalk, covers, edge_cost, is_fitting_walk, is_line_passed, is_walk_start_to_end, pass_sum, walk_cost}
 use Rattle.line_graph.specs.ValidPieces.{IsValidPiece}
 use Rattle.line_graph.specs.declared.edge.Edge.{Edge}
 use Rattle.line_graph.specs.declared.pass.Pass.{Pass}
-use Rattle.near_pieces.proofs.Names.{nat_tests, length-map, length_permutation, DrawingValue, LineValue, Piece, Spot, AreNearLines, lines_numbered}
-use Rattle.near_pieces.specs.NearPieceLaws.{ClosedWalksBeginAnywhere, HasSameCosts, HasSameGraph, HasWalksOf, KeepsPieces, NearPiecesStay, SameGraphsHaveSameCosts, SameLinesHaveSameGraph}
+use Rattle.near_pieces.proofs.Names.{nat_tests, length-map, length_permutation, DrawingValue, LineValue, Piece, Spot, NearDrawing, AreNearLines, IsNear, lines_numbered}
+use Rattle.near_pieces.specs.NearPieceLaws.{ClosedWalksBeginAnywhere, HasSameCosts, HasSameGraph, HasWalksOf, KeepsPieces, NearDrawingsKeepPieces, NearPiecesStay, SameGraphsHaveSameCosts, SameLinesHaveSameGraph}
 
 -- There are as many pieces as before.
 counted : (d : DrawingValue) (pieces : List (List ℕ)) (new : List LineValue) (is : KeepsPieces d pieces new)
@@ -122,3 +122,10 @@ pub refuted_later : ClosedWalksBeginAnywhere → (p : PieceValue) (j : ℕ) (wal
     → IsLeastWalk (record p { start = Some j }) other → walk_cost p other ≢ walk_cost p walk → ⊥
 refuted_later law p j walk other valid no_start no_end there one two least least_too differ =
     differ (sym (least_costs p (record p { start = Some j }) walk other (law p j valid no_start no_end there) one two least least_too))
+
+-- A near drawing of one piece has a line.
+pub refuted_emptied : NearDrawingsKeepPieces → (d : DrawingValue) (found : NearDrawing) (piece : List ℕ) → KeepsDrawingLimits d
+    → (near : IsNear d found) → lines_of_pieces near.pieces ≡ piece ∷ [] → found.drawing.lines ≡ [] → ⊥
+refuted_emptied law d found piece limits near one none =
+    refuted_lost d piece (subst (λ ps. KeepsPieces d ps []) one
+    (subst (KeepsPieces d (lines_of_pieces near.pieces)) none (law d found limits near)))

@@ -17,7 +17,7 @@ use Rattle.line_graph.specs.PiecesOfDrawings.{lines_of_pieces}
 use Rattle.line_graph.specs.WalkEnds.{representative}
 use Rattle.line_sections.proofs.CallerLemmas.{same_spot, spot_found}
 use Rattle.line_sections.specs.Spots.{is_same_spot}
-use Rattle.near_pieces.proofs.Names.{nat_tests, length-map, All-permutation, IsPermutation-refl, get_or-range_with_len, length-range_with_len, length_permutation, range_with_len, slice_get-get_or, Point, Piece, DrawingValue, Spot, LineValue, AreNearOrders, block_runs, if_there, lines_in, lines_in_run, lines_numbered, lines_of, needle_after_run, place_of, with_piece}
+use Rattle.near_pieces.proofs.Names.{nat_tests, length-map, All-permutation, IsPermutation-refl, get_or-range_with_len, length-range_with_len, length_permutation, range_with_len, slice_get-get_or, Point, Piece, DrawingValue, Spot, LineValue, AreNearLines, AreNearOrders, block_runs, if_there, lines_in, lines_in_run, lines_numbered, lines_of, needle_after_run, place_of, with_piece}
 use Rattle.near_pieces.proofs.PieceSpanLemmas.{ArePiecesInOrder, no_line, spans, spans_are_pieces, spans_have_lines}
 use Rattle.near_pieces.specs.NearPieceLaws.{KeepsPieces, NearPiecesStay}
 
@@ -250,3 +250,10 @@ near_pieces_stay theorem d pieces new starts limits are near =
       pieces_are = spans_are_pieces d order in_order;
       same = spans_have_lines d order in_order;
     })
+
+-- Near lines are those of the drawing with some indexes.
+pub near_lines_are_numbered : (lines : List LineValue) (pieces : List Piece) (new : List LineValue) (starts : List Spot)
+    → AreNearLines lines None pieces new starts → (some : List ℕ) × (new ≡ lines_numbered lines some)
+near_lines_are_numbered lines pieces new starts near =
+    let found = all_in_order lines None (block_runs pieces) near.orders near.near in
+    (concat (lines_of_pieces found.order), near.lines_are ∙ found.is)

@@ -1,7 +1,7 @@
 -- A drawing whose pieces are sewn near each other: each block has its pieces in an order with
 -- little travel, and a piece without a start and an end begins where it is nearest to the needle.
 -- The drawing stays as it is if that isn't less travel. Travel is in thousandths of a millimetre.
-use Rattle.std.specs.Prelude.{◌≡◌, ◌≤◌, ℕ, Bool, true, false, List, [], ◌∷◌, None, map, nat_le, Result, Ok, Err, nat_lt, length, ◌&&◌}
+use Rattle.std.specs.Prelude.{◌≡◌, ◌≤◌, ◌==◌, ℕ, Bool, true, false, List, [], ◌∷◌, None, map, nat_le, Result, Ok, Err, nat_lt, length, ◌&&◌}
 use Rattle.line_graph.specs.declared.draw_kind.DrawKind.{DrawKind}
 use Rattle.line_graph.specs.declared.piece.Piece.{Piece}
 use Rattle.line_graph.specs.Drawings.{DrawingValue}
@@ -44,12 +44,19 @@ abbrev pub IsLesser : (d new : DrawingValue) → (before after : ℕ) → Bool �
 IsLesser d new before after true found = (found.drawing ≡ new) × (found.after ≡ after)
 IsLesser d new before after false found = (found.drawing ≡ d) × (found.after ≡ before)
 
--- What is found where the near lines are drawn with their starts, which a text lists in the order
--- of their blocks, or where they can't be.
-abbrev pub IsFoundFrom : DrawingValue → Result DrawingValue DrawKind → NearDrawing → Type 0
-IsFoundFrom d (Ok new) found = (after : ℕ) × HasTravel new after
-    × IsLesser d new found.before after (are_in_order new.starts && nat_lt after found.before) found
-IsFoundFrom d (Err why) found = (found.drawing ≡ d) × (found.after ≡ found.before)
+-- Lines are drawn whole in a drawing: they are in the order of their blocks, and none is cut.
+abbrev pub are_drawn_whole : List LineValue → DrawingValue → Bool
+are_drawn_whole lines new =
+    rises_from 0 (map (λ line. line.block) lines) && length new.lines == length lines
+
+-- What is found where the near lines are drawn whole, with their starts, which a text lists in the
+-- order of their blocks, or where they can't be.
+abbrev pub IsFoundFrom : DrawingValue → List LineValue → Result DrawingValue DrawKind → NearDrawing
+    → Type 0
+IsFoundFrom d lines (Ok new) found = (after : ℕ) × HasTravel new after
+    × IsLesser d new found.before after (are_drawn_whole lines new
+    && (are_in_order new.starts && nat_lt after found.before)) found
+IsFoundFrom d lines (Err why) found = (found.drawing ≡ d) × (found.after ≡ found.before)
 
 -- The near drawing of a drawing: its pieces are those of the drawing in orders with little travel,
 -- and its travel is no more than before.
@@ -63,4 +70,4 @@ pub record IsNear (d : DrawingValue) (found : NearDrawing) : Type 0 where
   pub lines : List LineValue
   pub starts : List Spot
   pub near : AreNearLines d.lines None pieces lines starts
-  pub drawn : IsFoundFrom d (drawn_with d lines starts) found
+  pub drawn : IsFoundFrom d lines (drawn_with d lines starts) found

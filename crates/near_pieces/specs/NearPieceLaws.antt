@@ -12,7 +12,9 @@ use Rattle.line_graph.specs.PieceWalks.{is_fitting_walk, walk_cost}
 use Rattle.line_graph.specs.ValidPieces.{IsValidPiece}
 use Rattle.line_sections.specs.declared.spot.Spot.{Spot}
 use Rattle.line_sections.specs.Lines.{LineValue}
+use Rattle.near_pieces.specs.NearDrawings.{IsNear}
 use Rattle.near_pieces.specs.NearLines.{AreNearLines, lines_numbered}
+use Rattle.near_pieces.specs.declared.near_drawing.NearDrawing.{NearDrawing}
 
 -- Pieces of a drawing are those of other lines, in another order: each has the same lines, and
 -- these are in their order.
@@ -29,6 +31,11 @@ abbrev pub NearPiecesStay : Type 0
 NearPiecesStay = (d : DrawingValue) (pieces : List Piece) (new : List LineValue)
     (starts : List Spot) → KeepsDrawingLimits d → ArePiecesOf d pieces
     → AreNearLines d.lines None pieces new starts → KeepsPieces d (lines_of_pieces pieces) new
+
+-- A near drawing has the pieces of the drawing: its lines are those of the drawing, or near lines.
+abbrev pub NearDrawingsKeepPieces : Type 0
+NearDrawingsKeepPieces = (d : DrawingValue) (found : NearDrawing) → KeepsDrawingLimits d
+    → (near : IsNear d found) → KeepsPieces d (lines_of_pieces near.pieces) found.drawing.lines
 
 -- The graphs of two pieces are the same but for the indexes of their lines, and where walks must
 -- start and end.

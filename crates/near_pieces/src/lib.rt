@@ -1,6 +1,7 @@
 //! Drawings whose pieces are sewn in an order with little travel, each block by itself, and begin near the needle.
 #![tactic(auto)]
 
+mod drawn_whole;
 mod estimates;
 mod exhaustive;
 mod moved_visits;
@@ -19,5 +20,5 @@ mod travelling;
 mod visit;
 
 pub use near_drawing::{NearDrawing, near};
-pub use near_theorems::{near_pieces_keep_costs, near_pieces_stay};
+pub use near_theorems::{near_drawings_keep_pieces, near_pieces_keep_costs, near_pieces_stay};
 pub use redrawn_lines::draw_with;

@@ -3,12 +3,13 @@ ghost use Rattle.line_graph.specs.JoinedDrawings.{is_joined};
 ghost use Rattle.near_pieces.specs.NearDrawings.{HasTravel, IsFoundFrom, IsNear};
 ghost use Rattle.std.specs.Prelude.{◌≡◌, ◌≤◌, IfOk, Ok, true};
 
+use crate::drawn_whole::are_drawn_whole;
 use crate::near_lines::near_lines;
 use crate::redrawn_lines::draw_with;
 use crate::start_orders::in_order;
 use crate::travel_totals::{travel_between_pieces, travel_of_drawing};
 use design_model::Memory;
-use line_graph::{DrawKind, Drawing, pieces, pieces_keep_limits};
+use line_graph::{DrawKind, Drawing, Line, pieces, pieces_keep_limits};
 use std::alloc::Global;
 
 /// A drawing with little travel between its pieces, the travel of the drawing before and its own, in thousandths of a
@@ -37,16 +38,17 @@ pub fn near(alloc: Global, d: &Drawing) -> Result<NearDrawing, Memory>
     let before = travel_between_pieces(alloc, d, all.as_slice())?;
     let near = near_lines(alloc, d.lines(), all.as_slice())?;
     match draw_with(alloc, d, near.lines.as_slice(), near.starts.as_slice()) {
-        Ok(new) => lesser(alloc, d, before, all.len(), new),
+        Ok(new) => lesser(alloc, d, near.lines.as_slice(), before, all.len(), new),
         Err(DrawKind::Memory) => Err(Memory),
         Err(_) => kept(alloc, d, before, all.len()),
     }
 }
 
-/// Returns the new drawing if its travel is less, else a copy of the one before.
+/// Returns the new drawing if it has the given lines and its travel is less, else a copy of the one before.
 fn lesser(
     alloc: Global,
     d: &Drawing,
+    lines: &[Line],
     before: u128,
     pieces: usize,
     new: Drawing,
@@ -56,7 +58,7 @@ fn lesser(
     requires new { is_joined new ≡ true }
     requires ends { new.ends ≡ d.now.ends }
     requires before { HasTravel d.now before }
-    ensures found { IfOk result (IsFoundFrom d.now (Ok new)) }
+    ensures found { IfOk result (IsFoundFrom d.now lines.now (Ok new)) }
     ensures before { IfOk result (λ found. found.before ≡ before) }
     ensures pieces { IfOk result (λ found. found.pieces ≡ pieces) }
     ensures after { IfOk result (λ found. HasTravel found.drawing found.after) }
@@ -65,7 +67,7 @@ fn lesser(
     ensures ordered { IfOk result (λ found. HasOrderedEnds found.drawing) }
 {
     let after = travel_of_drawing(alloc, &new)?;
-    if in_order(new.starts()) && after < before {
+    if are_drawn_whole(lines, &new) && in_order(new.starts()) && after < before {
         return Ok(NearDrawing {
             drawing: new,
             before,
