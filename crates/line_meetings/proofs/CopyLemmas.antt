@@ -1,5 +1,5 @@
 -- A map of first copies, with one more part.
-use Rattle.std.proofs.Common.{◌≡◌, ◌==◌, ◌&&◌, ◌++◌, Bool, true, false, cond, List, [], ◌∷◌, Option, Some, None, if◌then◌else◌, refl, ap, sym, ◌∙◌, arith}
+use Rattle.std.proofs.Common.{◌≡◌, ◌++◌, Bool, true, false, cond, List, [], ◌∷◌, Option, Some, None, if◌then◌else◌, refl, ap, sym, ◌∙◌, arith}
 use Rattle.line_meetings.specs.declared.part_key.PartKey.{PartKey}
 use Rattle.line_meetings.specs.Parts.{is_same_key, key_of, part_at}
 use Rattle.line_meetings.specs.Sorting.{HasFirsts}

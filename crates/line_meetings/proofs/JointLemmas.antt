@@ -1,26 +1,40 @@
--- Contracting a joint moves all that is left.
-use Rattle.std.proofs.Common.{◌≡◌, Bool, List, [], ◌∷◌, map, refl, ap, sym, ◌∙◌}
+-- Steps make two points one exactly where joints join them.
+use Rattle.std.proofs.Common.{◌≡◌, ◌∙◌, ℕ, List, [], ◌∷◌, ◌++◌, filter, map, refl, ap}
+use Rattle.std.proofs.Math.Path.{ap₂}
 use Rattle.drawing_review.specs.declared.grid_point.GridPoint.{GridPoint}
+use Rattle.drawing_review.specs.Meetings.{is_same_grid_point}
 use Rattle.line_meetings.specs.declared.joints.Joint.{Joint}
-use Rattle.line_meetings.proofs.Names.{are_joined_after, are_joined_by, point_after}
+use Rattle.line_meetings.specs.Joints.{are_joined_around, point_by, step_after, steps_around, steps_with}
+use Rattle.line_meetings.specs.Queries.{is_around}
+use Rattle.line_meetings.proofs.Names.{are_joined_after, are_joined_by, joint_of, point_after, LineSegment}
 
--- Joints whose points become others before they are contracted.
-joined_moved : (g f : GridPoint → GridPoint) (joints : List Joint) (p q : GridPoint)
-    → are_joined_after (λ z. g (f z)) joints p q
-    ≡ are_joined_after g (map (λ t. record { a = f t.a; b = f t.b }) joints) (f p) (f q)
-joined_moved g f [] p q = refl
-joined_moved g f (t ∷ rest) p q = joined_moved (λ z. point_after (g (f t.b)) (g (f t.a)) (g z)) f rest p q
+-- Joints whose points become others in two ways that agree.
+joined_alike : (f g : GridPoint → GridPoint) (joints : List Joint) (p q : GridPoint) → ((z : GridPoint) → f z ≡ g z)
+    → are_joined_after f joints p q ≡ are_joined_after g joints p q
+joined_alike f g [] p q same = ap₂ is_same_grid_point (same p) (same q)
+joined_alike f g (t ∷ rest) p q same =
+    joined_alike (λ z. point_after (f t.b) (f t.a) (f z)) (λ z. point_after (g t.b) (g t.a) (g z)) rest p q
+    (λ z. ap₂ (λ b a. point_after b a (f z)) (same t.b) (same t.a) ∙ ap (point_after (g t.b) (g t.a)) (same z))
 
--- One joint is contracted, and the rest join the moved points.
-pub joined_step : (t : Joint) (joints rest moved : List Joint) (p q r s : GridPoint) (all : Bool) → joints ≡ t ∷ rest
-    → moved ≡ map (λ (u : Joint). let v : Joint = record { a = point_after t.b t.a u.a; b = point_after t.b t.a u.b } in v) rest
-    → r ≡ point_after t.b t.a p → s ≡ point_after t.b t.a q → are_joined_by joints p q ≡ all → are_joined_by moved r s ≡ all
-joined_step t joints rest moved p q r s all is moves first second before =
-    ap (λ (left : List Joint). are_joined_by left r s) moves
-    ∙ ap (λ (z : GridPoint). are_joined_by (map after rest) z s) first
-    ∙ ap (λ (z : GridPoint). are_joined_by (map after rest) (point_after t.b t.a p) z) second
-    ∙ sym (joined_moved (λ z. z) (point_after t.b t.a) rest p q)
-    ∙ sym (ap (λ (left : List Joint). are_joined_by left p q) is) ∙ before
-  where
-    after : Joint → Joint
-    after u = record { a = point_after t.b t.a u.a; b = point_after t.b t.a u.b }
+-- One more step comes last.
+one_more_step : (steps : List Joint) (t : Joint) (z : GridPoint) → point_after t.b t.a (point_by steps z) ≡ point_by (steps ++ t ∷ []) z
+one_more_step [] t z = refl
+one_more_step (s ∷ steps) t z = one_more_step steps t (point_after s.b s.a z)
+
+-- Joints after steps join two points where the steps and theirs make one of them.
+joined_after_steps : (steps joints : List Joint) (p q : GridPoint) → are_joined_after (point_by steps) joints p q
+    ≡ is_same_grid_point (point_by (steps_with steps joints) p) (point_by (steps_with steps joints) q)
+joined_after_steps steps [] p q = refl
+joined_after_steps steps (t ∷ rest) p q =
+    joined_alike (λ z. point_after (point_by steps t.b) (point_by steps t.a) (point_by steps z))
+    (point_by (steps ++ step_after steps t ∷ [])) rest p q (one_more_step steps (step_after steps t))
+    ∙ joined_after_steps (steps ++ step_after steps t ∷ []) rest p q
+
+joined_by_steps : (joints : List Joint) (p q : GridPoint) → are_joined_by joints p q
+    ≡ is_same_grid_point (point_by (steps_with [] joints) p) (point_by (steps_with [] joints) q)
+joined_by_steps joints p q = joined_after_steps [] joints p q
+
+-- The steps around a point make it and another one the same exactly where segments join them.
+pub joined_around : (gap : ℕ) (segments : List LineSegment) (p q : LineSegment) → are_joined_around gap segments p q
+    ≡ is_same_grid_point (point_by (steps_around gap segments p) p.a) (point_by (steps_around gap segments p) q.a)
+joined_around gap segments p q = joined_by_steps (map joint_of (filter (is_around gap p) segments)) p.a q.a

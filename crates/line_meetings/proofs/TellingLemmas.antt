@@ -1,6 +1,6 @@
 -- Meetings are told up to one above the limit: what is left may be left out once there are so many.
-use Rattle.std.proofs.Common.{◌≡◌, ℕ, ◌≤◌, ◌+◌, ◌++◌, nat_lt, true, List, [], ◌∷◌, length, refl, ap, sym, subst, ◌∙◌, append_assoc, arith}
-use Rattle.std.proofs.lemmas.List.{append-nil, take-append-le}
+use Rattle.std.proofs.Common.{◌≡◌, ℕ, ◌≤◌, ◌+◌, ◌++◌, nat_lt, true, List, [], ◌∷◌, length, ap, sym, ◌∙◌, append_assoc, arith}
+use Rattle.std.proofs.lemmas.List.{take-append-le}
 use Rattle.line_meetings.specs.declared.meeting.Meeting.{Meeting}
 use Rattle.line_meetings.specs.declared.meeting.TheConstants.{MAX_MEETINGS}
 use Rattle.line_meetings.specs.Meetings.{beside, close_to, meetings_among, touches}

@@ -1,19 +1,20 @@
 ghost use Rattle.line_meetings.specs.declared.meeting.TheConstants.{MAX_MEETINGS};
-ghost use Rattle.line_meetings.specs.Joints.{are_joined, are_joined_around};
+ghost use Rattle.drawing_review.specs.Meetings.{is_same_grid_point};
+ghost use Rattle.line_meetings.specs.Joints.{are_joined, point_by as point_by_steps, steps_around as steps_around_of};
 ghost use Rattle.line_meetings.specs.Meetings.{beside, close_points, close_to, meetings_among, meetings_of_lines, point_beside as point_beside_of, touch as touch_of, touches};
 ghost use Rattle.line_meetings.specs.Telling.{TellsUpTo, told};
 ghost use Rattle.std.specs.List.{flat_map};
 ghost use Rattle.std.specs.Prelude.{◌≡◌, ◌++◌, IfOk, OnOk, filter, length, map, nat_lt, not};
 
 use crate::copies::without_copies;
-use crate::joints::do_join;
+use crate::joints::{Joint, point_by, steps_of};
 use crate::meeting::{MAX_MEETINGS, Meeting, Meetings};
 use crate::meetings::{near_points, point_beside, touch};
 use crate::parts::{points, segments};
 use crate::query::Query;
 use crate::region::{Region, matches, regions};
 use design_model::Memory;
-use drawing_review::LineSegment;
+use drawing_review::{GridPoint, LineSegment};
 use line_sections::Line;
 use std::alloc::Global;
 
@@ -168,8 +169,12 @@ fn put_unjoined(
     ensures { OnOk result (found.new ≡ found.old ++ map (close_points p.now)
         (filter (λ q. not (are_joined gap (flat_map (λ r. r) regions.now) p.now q)) close.now)) }
 {
+    if close.is_empty() {
+        return Ok(());
+    }
+    let around = steps_around(alloc, gap, regions, p)?;
     for q in close {
-        if is_joined(alloc, gap, regions, p, q)? {
+        if is_joined(alloc, gap, regions, around.as_slice(), p, q)? {
             continue;
         }
         found.push(near_points(p, q))?;
@@ -177,36 +182,44 @@ fn put_unjoined(
     Ok(())
 }
 
-/// Returns whether segments join two points within the gap of one of them.
+/// Returns whether segments join two points within the gap of one of them. The steps are those around the first.
 fn is_joined(
     alloc: Global,
     gap: u16,
     regions: &[Region],
+    around: &[Joint],
     p: &LineSegment,
     q: &LineSegment,
 ) -> Result<bool, Memory>
+    requires { around.now ≡ steps_around_of gap (flat_map (λ r. r) regions.now) p.now }
     ensures { IfOk result (λ joined. joined ≡ are_joined gap (flat_map (λ r. r) regions.now) p.now q.now) }
 {
-    if is_joined_around(alloc, gap, regions, p, q)? {
+    if do_meet(around, p.a, q.a) {
         return Ok(true);
     }
-    is_joined_around(alloc, gap, regions, q, p)
+    let around = steps_around(alloc, gap, regions, q)?;
+    Ok(do_meet(around.as_slice(), q.a, p.a))
 }
 
-/// Returns whether segments join two points within the gap of the first.
-fn is_joined_around(
+/// Returns the steps for the segments whose ends are within the gap of a point.
+fn steps_around(
     alloc: Global,
     gap: u16,
     regions: &[Region],
     p: &LineSegment,
-    q: &LineSegment,
-) -> Result<bool, Memory>
-    ensures { IfOk result (λ joined. joined
-        ≡ are_joined_around gap (flat_map (λ r. r) regions.now) p.now q.now) }
+) -> Result<Vec<Joint>, Memory>
+    ensures { IfOk result (λ steps. steps.items ≡ steps_around_of gap (flat_map (λ r. r) regions.now) p.now) }
 {
     let point = *p;
     let around = matches(alloc, regions, Query::Around { gap, point })?;
-    do_join(alloc, around.as_slice(), p.a, q.a)
+    steps_of(alloc, around.as_slice())
+}
+
+/// Returns whether steps make two points one.
+fn do_meet(steps: &[Joint], p: GridPoint, q: GridPoint) -> bool
+    ensures { result ≡ is_same_grid_point (point_by_steps steps.now p) (point_by_steps steps.now q) }
+{
+    point_by(steps, p) == point_by(steps, q)
 }
 
 /// Adds the segments that a point lies beside.

@@ -1,68 +1,39 @@
-ghost use Rattle.line_meetings.specs.Joints.{are_joined_by, joint_of, point_after};
-ghost use Rattle.std.specs.Prelude.{◌≡◌, IfOk, map};
+ghost use Rattle.line_meetings.specs.Joints.{joint_of, point_after, point_by as point_by_steps, steps_with};
+ghost use Rattle.std.specs.Prelude.{◌≡◌, [], IfOk, map};
 
 use design_model::Memory;
 use drawing_review::{GridPoint, LineSegment};
 use std::alloc::Global;
 
-/// The two ends of a segment.
+/// The two ends of a segment; or a step, in which the second point becomes the first.
 #[derive(Clone, Copy)]
 pub struct Joint {
     pub a: GridPoint,
     pub b: GridPoint,
 }
 
-/// Returns whether segments join two points. They are contracted one after another.
-pub fn do_join(
-    alloc: Global,
-    segments: &[LineSegment],
-    p: GridPoint,
-    q: GridPoint,
-) -> Result<bool, Memory>
-    ensures { IfOk result (λ joined. joined ≡ are_joined_by (map joint_of segments.now) p q) }
+/// Returns the steps by which the ends of each segment become one point.
+pub fn steps_of(alloc: Global, segments: &[LineSegment]) -> Result<Vec<Joint>, Memory>
+    ensures { IfOk result (λ steps. steps.items ≡ steps_with [] (map joint_of segments.now)) }
 {
-    let mut joints = joints_of(alloc, segments)?;
-    let mut p = p;
-    let mut q = q;
-    while let Some((t, rest)) = joints.as_slice().split_first() {
-        let moved = moved(alloc, rest, t.b, t.a)?;
-        p = point_where(t.b, t.a, p);
-        q = point_where(t.b, t.a, q);
-        joints = moved;
-    }
-    Ok(p == q)
-}
-
-fn joints_of(alloc: Global, segments: &[LineSegment]) -> Result<Vec<Joint>, Memory>
-    ensures { IfOk result (λ joints. joints.items ≡ map joint_of segments.now) }
-{
-    let mut joints = Vec::new(alloc);
+    let mut steps = Vec::new(alloc);
     for t in segments {
-        joints.push(Joint { a: t.a, b: t.b })?;
+        let a = point_by(steps.as_slice(), t.a);
+        let b = point_by(steps.as_slice(), t.b);
+        steps.push(Joint { a, b })?;
     }
-    Ok(joints)
+    Ok(steps)
 }
 
-/// Returns joints where one point has become another.
-fn moved(
-    alloc: Global,
-    joints: &[Joint],
-    from: GridPoint,
-    to: GridPoint,
-) -> Result<Vec<Joint>, Memory>
-    ensures { IfOk result (λ moved. moved.items ≡ map (λ t. record {
-      a = point_after from to t.a;
-      b = point_after from to t.b;
-    }) joints.now) }
+/// Returns the point that a point becomes by steps.
+pub fn point_by(steps: &[Joint], p: GridPoint) -> GridPoint
+    ensures { result ≡ point_by_steps steps.now p }
 {
-    let mut moved = Vec::new(alloc);
-    for t in joints {
-        moved.push(Joint {
-            a: point_where(from, to, t.a),
-            b: point_where(from, to, t.b),
-        })?;
+    let mut p = p;
+    for t in steps {
+        p = point_where(t.b, t.a, p);
     }
-    Ok(moved)
+    p
 }
 
 fn point_where(from: GridPoint, to: GridPoint, p: GridPoint) -> GridPoint
