@@ -1,11 +1,10 @@
 -- Worked values of the picture of a drawing, by hand.
 use Rattle.std.proofs.Common.{◌≡◌, pos, negsuc, true, false, [], ◌∷◌, ◌++◌, Some, None, codes, refl}
 use Rattle.std.specs.Fmt.{digits}
-use Rattle.drawing_picture.proofs.Names.{flat_map, junction_dot, thread_lines, loose_points, marks_of_piece, odd_marks, line_paths, PieceValue, points_of_lines}
+use Rattle.drawing_picture.proofs.Names.{flat_map, junction_dot, thread_lines, marks_of_piece, odd_marks, line_paths, PieceValue, points_of_lines}
 use Rattle.design_model.specs.Extents.{extent_of_points}
 use Rattle.design_picture.specs.Captions.{block_start}
 use Rattle.drawing_picture.specs.DrawingCaptions.{counts_text, thread_end}
-use Rattle.drawing_review.specs.declared.place.PlaceKind.TheVariants as place
 use Rattle.picture_parts.specs.Colours.{colour_of_thread}
 use Rattle.picture_parts.specs.Marks.{mark_text, shape_at}
 use Rattle.picture_parts.specs.Parts.{around, filled}
@@ -48,22 +47,15 @@ pub known_odd : odd_marks (record { at = at 0; is_odd = true } ∷ record { at =
     ∷ record { at = at 2; is_odd = true } ∷ []) ≡ 2
 known_odd = refl
 
--- An end near a line and one on a line are loose, a crossing isn't.
-pub known_loose : loose_points (record { kind = place.LooseEnd; block = 0; line = 0; at = at 1 }
-    ∷ record { kind = place.Crossing; block = 0; line = 0; at = at 2 }
-    ∷ record { kind = place.UnlistedMeeting; block = 0; line = 1; at = at 3 } ∷ [])
-    ≡ at 1 ∷ at 3 ∷ []
-known_loose = refl
-
 pub known_dots : flat_map junction_dot (record { at = at 7; is_odd = true } ∷ record { at = at 9; is_odd = false } ∷ [])
     ≡ codes "<path fill='#ffd400' stroke='#222' stroke-width='2' d='M7,0m-9,0a9,9,0,1,0,18,0a9,9,0,1,0,-18,0'/>"
     ++ (10 ∷ codes "<path fill='#222' d='M9,0m-5,0a5,5,0,1,0,10,0a5,5,0,1,0,-10,0'/>" ++ 10 ∷ [])
 unfolding filled digits mark_text shape_at
 known_dots = refl
 
-pub known_counts : counts_text 2 30 4 1 0
-    ≡ codes "<text y='72'>pieces 2, lines 30, junctions 4</text>"
-    ++ (10 ∷ codes "<text y='100'>odd junctions 1, loose ends 0</text>" ++ 10 ∷ [])
+pub known_counts : counts_text 2 30 4 1 7
+    ≡ codes "<text y='72'>pieces 2, junctions 30, odd junctions 4</text>"
+    ++ (10 ∷ codes "<text y='100'>lines 1 as drawn, 7 as sewn</text>" ++ 10 ∷ [])
 unfolding filled digits counts_text
 known_counts = refl
 

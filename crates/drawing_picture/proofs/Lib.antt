@@ -7,5 +7,7 @@ mod FaultLemmas
 mod MarkLemmas
 mod DrawnLemmas
 mod DrawnFacts
+mod GridLemmas
+mod LabelLemmas
 mod WholeDrawingFacts
 mod WholeProofFacts

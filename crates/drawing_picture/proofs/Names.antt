@@ -16,7 +16,7 @@ pub use Rattle.drawing_picture.specs.Bands.{Band, band_along, bands_from, half_s
 pub use Rattle.drawing_picture.specs.CheckedProofs.{AreSewn, IsFirstFault, IsShownProof, RightCertificatesAreSewn, certificate_reason}
 pub use Rattle.drawing_picture.specs.CheckedProofs.{reason_before_acts}
 pub use Rattle.drawing_picture.specs.DrawingCaptions.{junction_dot, spot_mark, thread_lines}
-pub use Rattle.drawing_picture.specs.JunctionMarks.{loose_points, marks_from, marks_of_piece, marks_of_pieces, odd_marks}
+pub use Rattle.drawing_picture.specs.JunctionMarks.{marks_from, marks_of_piece, marks_of_pieces, odd_marks}
 pub use Rattle.drawing_picture.specs.LinePaths.{line_paths}
 pub use Rattle.drawing_picture.specs.ProofPictures.{proof_of_design, retraced_steps}
 pub use Rattle.drawing_picture.specs.TestedMarks.{tested_marks}

@@ -1,5 +1,5 @@
 -- The constants of pictures of drawings and of proofs, the lines of a proof's reason, and the order of its layers.
-use Rattle.std.proofs.Common.{◌≡◌, ℕ, List, pos, [], ◌∷◌, ◌++◌, codes, refl}
+use Rattle.std.proofs.Common.{◌≡◌, ℕ, List, [], ◌∷◌, ◌++◌, codes, refl}
 use Rattle.std.specs.Fmt.{digits}
 use Rattle.drawing_picture.proofs.BandFacts.{at}
 use Rattle.drawing_picture.proofs.Names.{DesignValue, proof_of_design}
@@ -10,7 +10,6 @@ use Rattle.design_picture.specs.Layouts.{below_start, title_text, top_text}
 use Rattle.design_picture.specs.Pictures.{below_text, over_text, threads_text}
 use Rattle.design_picture.specs.StrokeMarks.{piece_number}
 use Rattle.design_picture.specs.Threads.{arc_text, arrow_shape, hole_shape}
-use Rattle.drawing_picture.specs.declared.loose_ends.TheConstants.{LOOSE_GAP}
 use Rattle.drawing_picture.specs.declared.proof_captions.TheConstants.{REASON_LINES}
 use Rattle.drawing_picture.specs.BandTexts.{band_group}
 use Rattle.drawing_picture.specs.ProofPictures.{proof_with, reason_lines}
@@ -21,9 +20,9 @@ use Rattle.picture_parts.specs.Parts.{around, filled}
 use Rattle.picture_parts.specs.Paths.{coloured_path, move_text, path_end, path_start, straight_text}
 use Rattle.picture_parts.specs.Sheets.{foot_text, head_text, style_text}
 
--- An end within 0.2 mm of a line is loose. The reason takes the room of five lines of the legend.
-pub known_constants : (LOOSE_GAP ≡ 2) × (REASON_LINES ≡ 5)
-known_constants = (refl, refl)
+-- The reason takes the room of five lines of the legend.
+pub known_constants : REASON_LINES ≡ 5
+known_constants = refl
 
 -- A stitch of 3 mm forth and back, with the thread 1.
 abbrev design : DesignValue

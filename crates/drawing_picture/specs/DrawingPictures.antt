@@ -1,70 +1,111 @@
--- The picture of a drawing: its lines in the colours of their threads, a dot at each junction, and
--- marks at given starts and ends and at loose ends. The pieces are those that are sewn, the loose
--- ends are of the lines as they are drawn.
-use Rattle.std.specs.Prelude.{◌≡◌, ℕ, List, ◌++◌, Option, length, map}
+-- The picture of a drawing: a grid, its lines in the colours of their threads, the numbers of lines
+-- and pieces, a dot at each junction, and marks at given starts and ends, and where lines should
+-- meet and don't. The pieces and junctions are those that are sewn; the numbers of lines and the
+-- places are of the lines as they are drawn.
+use Rattle.std.specs.Prelude.{◌≡◌, ℕ, ◌+◌, ◌*◌, ◌-ℤ◌, pos, max, min, List, ◌++◌, Option, length, map}
 use Rattle.std.specs.List.{flat_map}
 use Rattle.design_model.specs.declared.bounds.Extent.{Extent}
 use Rattle.design_model.specs.declared.point.Point.{Point}
 use Rattle.design_model.specs.Extents.{extent_height, extent_of_points, extent_width}
 use Rattle.design_picture.specs.declared.layout.Area.{Area}
 use Rattle.design_picture.specs.Captions.{group_end}
-use Rattle.design_picture.specs.Layouts.{area_of, below_start, lower_left, top_text}
+use Rattle.design_picture.specs.Layouts.{below_start, corners, lower_left, top_text}
+use Rattle.drawing_picture.specs.declared.drawn_picture.TheConstants.{KEY_LINES, LABEL_HEIGHT, MEETING_GAP, SIDE_SPACE, UPPER_SPACE}
+use Rattle.drawing_picture.specs.declared.grid.Grid.{Grid}
 use Rattle.drawing_picture.specs.declared.junction_marks.JunctionMark.{JunctionMark}
-use Rattle.drawing_picture.specs.declared.loose_ends.TheConstants.{LOOSE_GAP}
-use Rattle.drawing_picture.specs.DrawingCaptions.{counts_text, drawing_words, junction_dot, mark_keys, spot_mark, thread_lines}
-use Rattle.drawing_picture.specs.JunctionMarks.{loose_points, marks_of_pieces, odd_marks}
+use Rattle.drawing_picture.specs.declared.label_order.Side.TheVariants as side
+use Rattle.drawing_picture.specs.declared.labels.Label.{Label}
+use Rattle.drawing_picture.specs.DrawingCaptions.{counts_text, drawing_words, grid_words, junction_dot, labels_words, legend_of, mark_keys, places_text, shown_blocks, spot_mark}
+use Rattle.drawing_picture.specs.Grids.{grid_of, grid_text}
+use Rattle.drawing_picture.specs.JunctionMarks.{marks_of_pieces, odd_marks}
+use Rattle.drawing_picture.specs.Labels.{labels_of, labels_on, labels_text}
 use Rattle.drawing_picture.specs.LinePaths.{line_paths}
-use Rattle.drawing_review.specs.Places.{places_of_lines}
+use Rattle.drawing_picture.specs.PlaceMarks.{meeting_mark}
 use Rattle.line_graph.specs.Drawings.{DrawingValue}
 use Rattle.line_graph.specs.PieceGraphs.{PieceValue, piece_graph}
 use Rattle.line_graph.specs.Pieces.{ArePieces}
+use Rattle.line_meetings.specs.declared.meeting.Meeting.{Meeting}
+use Rattle.line_meetings.specs.Meetings.{meetings_of_lines}
 use Rattle.line_sections.specs.Lines.{LineValue, points_of_lines}
 use Rattle.picture_parts.specs.declared.marks.Mark.TheVariants as mark
-use Rattle.picture_parts.specs.Marks.{mark_text}
 use Rattle.picture_parts.specs.Sheets.{foot_text}
 
 -- The extent of a drawing's points.
 abbrev pub drawn_extent : DrawingValue → Option Extent
 drawn_extent d = extent_of_points (points_of_lines d.lines)
 
--- The area of a drawing: its legend has a line for each block.
-abbrev pub drawing_area : DrawingValue → Area
-drawing_area d =
-    area_of (drawn_extent d) (record { width = 0; height = 0 }) (length d.threads)
+-- The grid of a drawing.
+abbrev pub drawing_grid : DrawingValue → Grid
+drawing_grid d = grid_of (corners (drawn_extent d))
 
--- The text before the lines.
+-- The point whose coordinates count from the least one that a needle reaches.
+abbrev pub counted_point : (x y : ℕ) → Point
+counted_point x y = record { x = pos x -ℤ pos 30000; y = pos y -ℤ pos 30000 }
+
+-- The area of a grid, with so many labels at most on a side, never more than 128, and a legend of
+-- so many blocks.
+abbrev pub drawing_area : Grid → (labels blocks : ℕ) → Area
+drawing_area g labels blocks = record {
+  corners = record {
+    min = counted_point g.left g.top;
+    max = counted_point g.right (max g.bottom (g.top + LABEL_HEIGHT * min labels 128));
+  };
+  side = SIDE_SPACE;
+  above = UPPER_SPACE;
+  lines = shown_blocks blocks + KEY_LINES;
+}
+
+-- The text before the grid.
 abbrev pub drawing_top : DrawingValue → Area → List ℕ
 drawing_top d area = top_text area d.label drawing_words
 
--- The marks: of junctions, given starts and ends, and loose ends.
-unfoldable pub drawing_marks : DrawingValue → List JunctionMark → List Point → List ℕ
-drawing_marks d marks loose = flat_map junction_dot marks
+-- The marks: of junctions, given starts and ends, and places where lines should meet.
+unfoldable pub drawing_marks : DrawingValue → List JunctionMark → List Meeting → List ℕ
+drawing_marks d marks meetings = flat_map junction_dot marks
     ++ (flat_map (spot_mark mark.Start) d.starts ++ (flat_map (spot_mark mark.End) d.ends
-    ++ flat_map (mark_text mark.Loose) loose))
+    ++ flat_map meeting_mark meetings))
 
--- The texts below the lines, with a line of the legend for each block.
-unfoldable pub drawing_below : DrawingValue → Area → ℕ → List JunctionMark → List Point → List ℕ
-drawing_below d area pieces marks loose =
+-- The texts below the lines, of which so many are drawn.
+unfoldable pub drawing_below : DrawingValue → Area → (step drawn pieces : ℕ)
+    → List JunctionMark → List Meeting → List ℕ
+drawing_below d area step drawn pieces marks meetings =
     below_start (lower_left area.corners) area.above d.label (extent_width (drawn_extent d))
     (extent_height (drawn_extent d))
-    ++ (counts_text pieces (length d.lines) (length marks) (odd_marks marks) (length loose)
-    ++ (mark_keys ++ (thread_lines 1 d.threads ++ group_end)))
+    ++ (counts_text pieces (length marks) (odd_marks marks) drawn (length d.lines)
+    ++ (mark_keys ++ (places_text meetings ++ (grid_words step (labels_words pieces drawn)
+    ++ (legend_of d.threads ++ group_end)))))
 
--- The picture of a drawing of so many pieces, with the marks of its junctions and its loose ends.
-unfoldable pub drawing_with : DrawingValue → ℕ → List JunctionMark → List Point → List ℕ
-drawing_with d pieces marks loose = drawing_top d (drawing_area d)
-    ++ (line_paths d.threads d.lines ++ (drawing_marks d marks loose
-    ++ (drawing_below d (drawing_area d) pieces marks loose ++ foot_text)))
+-- The picture of a drawing of so many pieces and lines as drawn, with the marks of its junctions and
+-- meetings, and with labels on both sides of its grid.
+unfoldable pub drawing_with : DrawingValue → Area → (drawn pieces : ℕ) → List JunctionMark
+    → List Meeting → (left right : List Label) → List ℕ
+drawing_with d area drawn pieces marks meetings left right = drawing_top d area
+    ++ (grid_text (drawing_grid d) ++ (line_paths d.threads d.lines
+    ++ (labels_text (drawing_grid d) left right ++ (drawing_marks d marks meetings
+    ++ (drawing_below d area (drawing_grid d).step drawn pieces marks meetings ++ foot_text)))))
 
--- The picture of a drawing that has those pieces and loose ends.
-abbrev pub picture_of_pieces : DrawingValue → List PieceValue → List Point → List ℕ
-picture_of_pieces d pieces loose =
-    drawing_with d (length pieces) (marks_of_pieces pieces) loose
+-- The picture of a drawing with labels on both sides of its grid.
+abbrev pub drawing_labelled : DrawingValue → (drawn pieces : ℕ) → List JunctionMark → List Meeting
+    → (left right : List Label) → List ℕ
+drawing_labelled d drawn pieces marks meetings left right = drawing_with d
+    (drawing_area (drawing_grid d) (max (length left) (length right)) (length d.threads))
+    drawn pieces marks meetings left right
+
+-- The picture of a drawing with labels.
+abbrev pub labelled_on_sides : DrawingValue → (drawn pieces : ℕ) → List JunctionMark
+    → List Meeting → List Label → List ℕ
+labelled_on_sides d drawn pieces marks meetings labels =
+    drawing_labelled d drawn pieces marks meetings
+    (labels_on side.Left (drawing_grid d) labels) (labels_on side.Right (drawing_grid d) labels)
+
+-- The picture of a drawing that has those pieces, whose lines are drawn like that.
+abbrev pub picture_of_pieces : DrawingValue → List PieceValue → List LineValue → List ℕ
+picture_of_pieces d pieces lines = labelled_on_sides d (length lines) (length pieces)
+    (marks_of_pieces pieces) (meetings_of_lines MEETING_GAP lines) (labels_of pieces lines)
 
 -- The text is the picture of a drawing, whose lines are drawn like that.
 pub record IsDrawingPicture (d : DrawingValue) (lines : List LineValue) (text : List ℕ)
     : Type 0 where
   pub pieces : List (List ℕ)
   pub pieces_are : ArePieces d pieces
-  pub shown : text ≡ picture_of_pieces d (map (piece_graph d) pieces)
-      (loose_points (places_of_lines d.step LOOSE_GAP lines))
+  pub shown : text ≡ picture_of_pieces d (map (piece_graph d) pieces) lines

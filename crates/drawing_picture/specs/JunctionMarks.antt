@@ -1,11 +1,8 @@
--- The marks of a drawing's junctions, and its loose ends.
-use Rattle.std.specs.Prelude.{ℕ, ◌+◌, Bool, true, false, List, [], ◌∷◌, if◌then◌else◌}
+-- The marks of a drawing's junctions.
+use Rattle.std.specs.Prelude.{ℕ, ◌+◌, List, [], ◌∷◌}
 use Rattle.std.specs.List.{flat_map}
 use Rattle.design_model.specs.declared.point.Point.{Point}
 use Rattle.drawing_picture.specs.declared.junction_marks.JunctionMark.{JunctionMark}
-use Rattle.drawing_review.specs.declared.place.Place.{Place}
-use Rattle.drawing_review.specs.declared.place.PlaceKind.{PlaceKind}
-use Rattle.drawing_review.specs.declared.place.PlaceKind.TheVariants as place
 use Rattle.line_graph.specs.PieceGraphs.{PieceValue, is_odd_junction, one_if}
 
 -- The marks of junctions of a piece, with successive numbers from j on.
@@ -26,19 +23,3 @@ marks_of_pieces pieces = flat_map marks_of_piece pieces
 abbrev pub odd_marks : List JunctionMark → ℕ
 odd_marks [] = 0
 odd_marks (mark ∷ rest) = one_if mark.is_odd + odd_marks rest
-
--- A place is a loose end: near a line that it doesn't meet, or on a line that doesn't list it.
-abbrev pub is_loose : PlaceKind → Bool
-is_loose place.LooseEnd = true
-is_loose place.UnlistedMeeting = true
-is_loose place.Crossing = false
-is_loose place.RepeatedSegment = false
-is_loose place.ShortSpacing = false
-
--- The point of a place, if it is a loose end.
-abbrev pub loose_point : Place → List Point
-loose_point p = if is_loose p.kind then p.at ∷ [] else []
-
--- The loose ends among places.
-abbrev pub loose_points : List Place → List Point
-loose_points places = flat_map loose_point places

@@ -9,6 +9,9 @@ pub mod CheckedProofs
 pub mod DrawingPictures
 pub mod DrawingCaptions
 pub mod LinePaths
+pub mod Grids
+pub mod Labels
+pub mod PlaceMarks
 pub mod JunctionMarks
 pub mod DrawnLaws
 pub mod TestedMarks

@@ -1,11 +1,9 @@
 ghost use Rattle.drawing_picture.specs.DrawingCaptions.{junction_dot, spot_mark};
-ghost use Rattle.picture_parts.specs.Marks.{mark_text};
-ghost use Rattle.picture_parts.specs.declared.marks.Mark.TheVariants as mark;
 ghost use Rattle.std.specs.List.{flat_map};
 ghost use Rattle.std.specs.Prelude.{◌≡◌, ◌++◌, OnOk};
 
 use crate::junction_marks::JunctionMark;
-use design_model::{Bytes, Memory, Point};
+use design_model::{Bytes, Memory};
 use line_graph::Spot;
 use picture_parts::{Mark, put_mark};
 
@@ -34,16 +32,6 @@ pub(crate) fn put_spots(text: &mut Bytes, mark: Mark, spots: &[Spot]) -> Result<
 {
     for spot in spots {
         put_mark(text, mark, spot.at)?;
-    }
-    Ok(())
-}
-
-/// Appends the rings of loose ends.
-pub(crate) fn put_loose_rings(text: &mut Bytes, points: &[Point]) -> Result<(), Memory>
-    ensures { OnOk result (text.new ≡ text.old ++ flat_map (mark_text mark.Loose) points.now) }
-{
-    for point in points {
-        put_mark(text, Mark::Loose, *point)?;
     }
     Ok(())
 }

@@ -1,5 +1,6 @@
-//! The picture of a drawing, with its junctions. The picture of a proof that no thread has fewer stitches: the
-//! walks of its certificate as they are sewn, with the cuts as bands.
+//! The picture of a drawing, with a grid, the numbers of its lines and pieces, its junctions, and the places where
+//! lines should meet. The picture of a proof that no thread has fewer stitches: the walks of its certificate as they
+//! are sewn, with the cuts as bands.
 #![tactic(auto)]
 
 mod band_texts;
@@ -8,11 +9,15 @@ mod certificate_check;
 mod dots;
 mod drawing_captions;
 mod drawn_picture;
+mod grid;
 mod half_steps;
 mod junction_marks;
+mod label_order;
+mod label_texts;
+mod labels;
 mod line_bands;
 mod line_paths;
-mod loose_ends;
+mod place_marks;
 mod proof_captions;
 mod proof_picture;
 mod theorems;

@@ -144,8 +144,11 @@ const PICTURES: [DrawnCase; 3] = [
         &[
             b"<path class='thread' stroke='#ed171f' d='\nM0,0L20,0'/>\n<path class='thread' stroke='#ed171f' d='\nM20,0L40,0L40,10'/>\n",
             b"d='M0,0m-9,0a9,9,0,1,0,18,0a9,9,0,1,0,-18,0'/>\n<path fill='#222' d='M20,0m-5,0a5,5,0,1,0,10,0a5,5,0,1,0,-10,0'/>\n",
-            b"<path fill='none' stroke='#d00' stroke-width='3' d='M18,20m-15,0a15,15,0,1,0,30,0a15,15,0,1,0,-30,0'/>\n<g transform='translate(0,30) translate(0,60)'>\n",
-            b"pieces 3, lines 4, junctions 7</text>\n<text y='100'>odd junctions 6, loose ends 1</text>\n",
+            b"<path fill='none' stroke='#d00' stroke-width='3' d='M18,20m-15,0a15,15,0,1,0,30,0a15,15,0,1,0,-30,0'/>\n<g transform='translate(0,168) translate(0,60)'>\n",
+            b"<path d='M30100,30000V30100'/><text class='small' style='fill:#6b6454' text-anchor='middle' x='30100' y='30000' dy='-20'>100</text>\n",
+            b" x='60000' y='60000' dx='-76' dy='14'>P1</text>\n",
+            b"pieces 3, junctions 7, odd junctions 6</text>\n<text y='100'>lines 4 as drawn, 4 as sewn</text>\n",
+            b">loose ends 1</text>",
             b"d='M7,-7h26' stroke='#0e1f7c'/><text x='52'>thread 1</text></g>\n",
         ],
     ),
