@@ -9,5 +9,7 @@ mod DrawnLemmas
 mod DrawnFacts
 mod GridLemmas
 mod LabelLemmas
+mod LabelLawLemmas
+mod RuleFacts
 mod WholeDrawingFacts
 mod WholeProofFacts

@@ -11,6 +11,7 @@ pub mod DrawingCaptions
 pub mod LinePaths
 pub mod Grids
 pub mod Labels
+pub mod LabelLaws
 pub mod PlaceMarks
 pub mod JunctionMarks
 pub mod DrawnLaws

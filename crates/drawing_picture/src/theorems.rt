@@ -1,6 +1,7 @@
 ghost use Rattle.drawing_picture.specs.BandLaws.{BandsShowLoads};
 ghost use Rattle.drawing_picture.specs.CheckedProofs.{RightCertificatesAreSewn};
 ghost use Rattle.drawing_picture.specs.DrawnLaws.{MarksShowJunctions, PathsShowSegments};
+ghost use Rattle.drawing_picture.specs.LabelLaws.{LabelsStandApart, SidesHaveLabels};
 
 use line_graph::{
     fitting_walks_are_sewable, needles_lead_along, pieces_are_valid, pieces_keep_limits,
@@ -36,8 +37,10 @@ pub fn right_certificates_are_sewn()
 }
 
 /// Theorem: the picture of a drawing draws each segment of a line once and in order, and marks each junction of
-/// a piece once, as odd where it is.
+/// a piece once, as odd where it is. Each of its labels stands once, on one side, and in a row of its own.
 pub fn drawings_are_shown()
     ensures segments { PathsShowSegments }
     ensures junctions { MarksShowJunctions }
+    ensures sides { SidesHaveLabels }
+    ensures rows { LabelsStandApart }
 {}
