@@ -1,5 +1,1 @@
-pub mod Names
-mod ReviewFacts
-mod FrameLemmas
-mod GroupLemmas
-mod PlaceLemmas
+mod SegmentFacts

@@ -1,6 +1,6 @@
 -- Points with coordinates that are never negative, and frames: rectangles with sides along the
 -- axes. Lengths are whole tenths of a millimetre.
-use Rattle.std.specs.Prelude.{ℕ, ℤ, pos, negsuc, ◌+◌, ◌-◌, ◌≤◌, min, max, Bool, ◌||◌, nat_lt}
+use Rattle.std.specs.Prelude.{ℕ, ℤ, pos, negsuc, ◌+◌, ◌-◌, min, max, Bool, ◌||◌, nat_lt}
 use Rattle.design_model.specs.declared.point.Point.{Point}
 use Rattle.drawing_review.specs.declared.frame.Frame.{Frame}
 use Rattle.drawing_review.specs.declared.grid_point.GridPoint.{GridPoint}
@@ -33,19 +33,3 @@ frame_around gap p =
 abbrev pub are_apart : Frame → Frame → Bool
 are_apart a b = nat_lt a.right b.left || (nat_lt b.right a.left
     || (nat_lt a.bottom b.top || nat_lt b.bottom a.top))
-
--- The least frame that has two frames inside.
-abbrev pub united_frame : Frame → Frame → Frame
-united_frame a b = record {
-  left = min a.left b.left;
-  right = max a.right b.right;
-  top = min a.top b.top;
-  bottom = max a.bottom b.bottom;
-}
-
--- A frame lies inside another.
-pub record IsInside (outer inner : Frame) : Type 0 where
-  pub left : outer.left ≤ inner.left
-  pub right : inner.right ≤ outer.right
-  pub top : outer.top ≤ inner.top
-  pub bottom : inner.bottom ≤ outer.bottom

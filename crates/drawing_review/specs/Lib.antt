@@ -1,8 +1,4 @@
--- Used only inside this crate, as are Queries and Groups.
 pub mod Frames
 pub mod Segments
+-- Read this one first: points near a segment, and crossings.
 pub mod Meetings
-pub mod Queries
-pub mod Groups
--- Read this one first: the places of a drawing that were probably not meant.
-pub mod Places

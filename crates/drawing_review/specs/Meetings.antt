@@ -1,4 +1,4 @@
--- Where segments meet: points near a segment, crossings and repetitions. The side of a segment on
+-- Where segments meet: points near a segment, and crossings. The side of a segment on
 -- which a point lies is the sign of a cross product, which is the difference of two sums of
 -- products. Lengths are whole tenths of a millimetre.
 use Rattle.std.specs.Prelude.{ℕ, ◌+◌, ◌*◌, ◌==◌, Bool, not, ◌&&◌, ◌||◌, nat_le, nat_lt}
@@ -42,9 +42,3 @@ cross_inside s t = not (are_apart s.frame t.frame) && (lies_between s t && lies_
 -- Two points are the same.
 abbrev pub is_same_grid_point : GridPoint → GridPoint → Bool
 is_same_grid_point p q = p.x == q.x && p.y == q.y
-
--- Two segments have the same ends, in either order.
-abbrev pub repeats_segment : LineSegment → LineSegment → Bool
-repeats_segment s t = not (are_apart s.frame t.frame)
-    && ((is_same_grid_point s.a t.a && is_same_grid_point s.b t.b)
-    || (is_same_grid_point s.a t.b && is_same_grid_point s.b t.a))

@@ -1,4 +1,4 @@
-ghost use Rattle.drawing_review.specs.Frames.{are_apart, frame_around, frame_between, united_frame, IsInside};
+ghost use Rattle.drawing_review.specs.Frames.{are_apart, frame_around, frame_between};
 ghost use Rattle.std.specs.Prelude.{◌≡◌};
 
 use crate::grid_point::GridPoint;
@@ -46,17 +46,5 @@ impl Frame {
             || other.right < self.left
             || self.bottom < other.top
             || other.bottom < self.top
-    }
-
-    /// Returns the least frame that has both inside.
-    pub fn united(&self, other: &Frame) -> Frame
-        ensures value { result ≡ united_frame self.now other.now }
-    {
-        Frame {
-            left: self.left.min(other.left),
-            right: self.right.max(other.right),
-            top: self.top.min(other.top),
-            bottom: self.bottom.max(other.bottom),
-        }
     }
 }

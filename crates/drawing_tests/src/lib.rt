@@ -1,5 +1,5 @@
 //! Tests of drawings: lines cut into sections, drawings cut into pieces, their texts, samples and traces, and
-//! places that were probably not meant.
+//! where lines should meet.
 #![tactic(auto)]
 
 mod point_lists;

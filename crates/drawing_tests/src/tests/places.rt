@@ -1,11 +1,15 @@
 use super::sections::{Places, lines};
-use PlaceKind::{Crossing, LooseEnd, RepeatedSegment, ShortSpacing, UnlistedMeeting};
+use MeetingKind::{BesideSegment, ClosePoints, Crossing, OnSegment, Overlap, Repeat};
 use design_model::Point;
-use drawing_review::{PlaceKind, review};
+use line_meetings::{MeetingKind, find_meetings};
 use std::test::Fail;
 
-/// The gap, lines, and the places that are found: what each is, its line, and its point.
-type Case = (u16, Places, &'static [(PlaceKind, usize, (i32, i32))]);
+/// The gap, lines, and the meetings that are found: of each its kind, its two lines, and its point.
+type Case = (
+    u16,
+    Places,
+    &'static [(MeetingKind, usize, usize, (i32, i32))],
+);
 
 const CASES: [Case; 9] = [
     // Two lines that share an end.
@@ -14,11 +18,11 @@ const CASES: [Case; 9] = [
         &[(0, &[(0, 0), (20, 0)]), (0, &[(20, 0), (20, 20)])],
         &[],
     ),
-    // An end two tenths from the end of another line, and each is loose.
+    // An end two tenths from the end of another line.
     (
         2,
         &[(0, &[(0, 0), (20, 0)]), (0, &[(22, 1), (40, 20)])],
-        &[(LooseEnd, 0, (20, 0)), (LooseEnd, 1, (22, 1))],
+        &[(ClosePoints, 0, 1, (20, 0))],
     ),
     // Three tenths away, and another block.
     (
@@ -34,28 +38,32 @@ const CASES: [Case; 9] = [
     (
         2,
         &[(0, &[(0, 0), (40, 20)]), (0, &[(20, 10), (20, 40)])],
-        &[(UnlistedMeeting, 1, (20, 10))],
+        &[(OnSegment, 1, 0, (20, 10))],
     ),
-    // Two lines that cross at no listed point.
+    // Two lines that cross at no listed point, half a tenth beside a whole one.
     (
         2,
         &[
             (0, &[(0, 0), (20, 0), (40, 0)]),
             (0, &[(30, -20), (31, 20)]),
         ],
-        &[(Crossing, 1, (30, -20))],
+        &[(Crossing, 0, 1, (31, 0))],
     ),
     // A segment that is drawn again the other way.
     (
         2,
         &[(0, &[(0, 0), (20, 0), (40, 0)]), (0, &[(40, 0), (20, 0)])],
-        &[(RepeatedSegment, 1, (40, 0))],
+        &[(Repeat, 1, 0, (20, 0))],
     ),
-    // A segment of four tenths, with a step of ten.
+    // A segment that shares a part with another, whose ends lie on each other's segments.
     (
         2,
-        &[(0, &[(0, 0), (20, 0), (24, 4), (40, 4)])],
-        &[(ShortSpacing, 0, (20, 0))],
+        &[(0, &[(0, 0), (20, 0)]), (0, &[(10, 0), (40, 0)])],
+        &[
+            (OnSegment, 0, 1, (20, 0)),
+            (OnSegment, 1, 0, (10, 0)),
+            (Overlap, 0, 1, (10, 0)),
+        ],
     ),
     // An end beside the middle of a slanted segment: its square meets it with a gap of 5, not of 4.
     (
@@ -66,21 +74,35 @@ const CASES: [Case; 9] = [
     (
         5,
         &[(0, &[(0, 0), (40, 40)]), (0, &[(25, 15), (60, 0)])],
-        &[(LooseEnd, 1, (25, 15))],
+        &[(BesideSegment, 1, 0, (25, 15))],
     ),
 ];
 
 #[test]
-fn each_place_is_found_and_no_other(rt: HostRuntime) -> Result<(), Fail> {
-    for (gap, drawn, places) in CASES {
+fn each_meeting_is_found_and_no_other(rt: HostRuntime) -> Result<(), Fail> {
+    for (gap, drawn, meetings) in CASES {
         let drawn = lines(rt.alloc(), drawn)?;
-        let found = review(rt.alloc(), 10, gap, &drawn)?;
-        assert_eq!(rt; found.len(), places.len());
-        for (place, (kind, line, (x, y))) in found.as_slice().iter().zip(places.iter()) {
-            assert_eq!(rt; place.kind, *kind);
-            assert_eq!(rt; place.line, *line);
-            assert!(rt; place.at == Point { x: *x, y: *y });
+        let found = find_meetings(rt.alloc(), &drawn, gap)?;
+        assert_eq!(rt; found.len(), meetings.len());
+        for (meeting, (kind, line, other, (x, y))) in
+            found.as_slice().iter().zip(meetings.iter())
+        {
+            assert_eq!(rt; number_of(meeting.kind), number_of(*kind));
+            assert_eq!(rt; meeting.line, *line);
+            assert_eq!(rt; meeting.other, *other);
+            assert!(rt; meeting.from == Point { x: *x, y: *y });
         }
     }
     Ok(())
+}
+
+fn number_of(kind: MeetingKind) -> u8 {
+    match kind {
+        ClosePoints => 0,
+        BesideSegment => 1,
+        OnSegment => 2,
+        Crossing => 3,
+        Overlap => 4,
+        Repeat => 5,
+    }
 }
