@@ -20,7 +20,8 @@ USAGE = {
         "       stitch hoop FILE WIDTH HEIGHT", "       stitch sample N DRAWING", "       stitch migrate DRAWING OUT",
         "       stitch trace FILE DRAWING", "       stitch double DRAWING OUT CERT"),
     "stitch_picture": text(
-        "usage: stitch_picture FILE OUT.svg [WIDTH HEIGHT]", "       stitch_picture DRAWING OUT.svg",
+        "usage: stitch_picture FILE OUT.svg [WIDTH HEIGHT]", "       stitch_picture FILE OUT.svg plain[=RRGGBB]",
+        "       stitch_picture DRAWING OUT.svg",
         "       stitch_picture DRAWING CERT OUT.svg", "       stitch_picture --help", "       stitch_picture --version"),
     "stitch_drawing": text(
         "usage: stitch_drawing look DRAWING [GAP]", "       stitch_drawing snap GAP DRAWING OUT [--keep]",
@@ -144,6 +145,12 @@ row("usage of stitch_picture, with files there", HERE, misused("stitch_picture")
     ("stitch_picture a.lst b.svg 100001 10", "100001: from 1 to 100000"),
     ("stitch_picture a.lst b.svg 10 100001", "100001: from 1 to 100000"),
     ("stitch_picture a.lst b.svg x 10", "x: from 1 to 100000"), ("stitch_picture a.lst b.svg 10 10 11", "11: not understood"),
+    ("stitch_picture a.lst b.svg plain=", "plain=: needs six hexadecimal digits"),
+    ("stitch_picture a.lst b.svg plain=red", "plain=red: needs six hexadecimal digits"),
+    ("stitch_picture a.lst b.svg plain=fffffff", "plain=fffffff: needs six hexadecimal digits"),
+    ("stitch_picture a.lst b.svg plane", "plane: needs the ending .svg"),
+    ("stitch_picture a.lst b.svg 10 10 plain", "plain: not understood"),
+    ("stitch_picture a.rw a.svg plain", "a.rw: no format has this ending"),
     ("stitch_picture a.svg a.svg", "a.svg: is an input"), ("stitch_picture a.rw a.svg 10 10", "a.rw: no format has this ending"),
     ("stitch_picture a.rw a.svg a.svg", "a.svg: is an input"), ("stitch_picture a.svg a.cert a.svg", "a.svg: is an input"),
     ("stitch_picture a.rw a.cert b.txt", "b.txt: needs the ending .svg"),
@@ -1152,6 +1159,8 @@ row_of_sample(75, ["49 27 106 45", "1 141 126 149", "49 27 1 141", "106 45 126 1
 row("a picture of each format", {f"a.{ending}": make(*SHOWN) for ending, make in MAKERS.items()},
     done("stitch_picture a.lst lst.svg", "", {"lst.svg": A_PICTURE}),
     done("stitch_picture a.lst a.svg 200 100", "", {"a.svg": A_PICTURE}),
+    done("stitch_picture a.lst p.svg plain", "", {"p.svg": A_PICTURE}),
+    done("stitch_picture a.lst q.svg plain=ffffff", "", {"q.svg": SameAs("p.svg")}),
     *[done(f"stitch_picture a.{ending} {ending}.svg", "", {f"{ending}.svg": SameAs("lst.svg")})
       for ending in ("dst", "exp", "pec", "pes")],
     *[done(f"stitch_picture a.{ending} {ending}.svg 200 100", "", {f"{ending}.svg": SameAs("a.svg")})

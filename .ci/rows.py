@@ -150,7 +150,7 @@ SCANNED = ("program_texts", "program_shell", "program_inputs", "route_texts", "s
            "picture_commands", "drawing_commands", "look_reports", "edited_designs", "design_commands")
 
 # A file that has a table alone: the names of threads.
-TABLES = ("design_commands/thread_names.rt",)
+TABLES = ("picture_parts/thread_names.rt",)
 
 # Literals that are no refusals, by file, with the reason.
 EXCEPTIONS = {

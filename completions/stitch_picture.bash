@@ -12,7 +12,11 @@ _stitch_picture() {
     case $COMP_CWORD in
         1) endings='[dD][sS][tT]|[eE][xX][pP]|[pP][eE][cCsS]|[lL][sS][tT]|[rR][wW]' ;;
         2) endings=$second ;;
-        3) endings=$third ;;
+        3) endings=$third
+            if [[ -z $third ]]; then
+                compopt -o nospace 2>/dev/null
+                mapfile -t COMPREPLY < <(compgen -W 'plain plain=' -- "$word")
+            fi ;;
     esac
     [ -n "${endings-}" ] || return
     mapfile -t COMPREPLY < <(compgen -d -- "$word")

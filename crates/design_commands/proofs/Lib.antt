@@ -3,4 +3,3 @@ mod FormatLemmas
 pub mod Names
 mod RequestFacts
 mod TextFacts
-mod ThreadNameFacts

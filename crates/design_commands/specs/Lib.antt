@@ -3,7 +3,6 @@ pub use Rattle.program_texts.specs.MistakenWords
 pub use Rattle.program_texts.specs.CompanionUsage
 pub use Rattle.program_shell.specs.ProgramRuns
 pub use Rattle.program_shell.specs.RunViews
-pub mod ThreadNames
 pub mod Mistakes
 pub mod LimitWords
 pub mod EditRequests

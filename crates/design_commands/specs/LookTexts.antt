@@ -11,7 +11,7 @@ use Rattle.design_review.specs.declared.open_block.BlockSummary.{BlockSummary}
 use Rattle.design_review.specs.BlockSummaries.{summaries_of_blocks}
 use Rattle.design_review.specs.Places.{places_of}
 use Rattle.design_commands.specs.PlaceTexts.{design_place_lines}
-use Rattle.design_commands.specs.ThreadNames.{name_of_thread}
+use Rattle.picture_parts.specs.ThreadNames.{name_of_thread}
 
 -- The line of the size: the width and the height of the needles, 0 where there is none.
 abbrev pub size_line : Option Extent → List ℕ

@@ -7,7 +7,7 @@ use Rattle.design_review.specs.declared.open_block.BlockSummary.{BlockSummary}
 use Rattle.design_review.specs.BlockSummaries.{summaries_of_blocks}
 use Rattle.picture_parts.specs.Colours.{colour_of_thread}
 use Rattle.design_commands.specs.LookTexts.{block_length_text}
-use Rattle.design_commands.specs.ThreadNames.{name_of_thread}
+use Rattle.picture_parts.specs.ThreadNames.{name_of_thread}
 
 -- A thread by its number, with its name and its colour.
 abbrev pub thread_text : ℕ → List ℕ

@@ -17,7 +17,6 @@ mod passing;
 mod place_texts;
 mod requests;
 mod running;
-mod thread_names;
 mod thread_texts;
 mod usage;
 

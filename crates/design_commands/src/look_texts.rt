@@ -3,9 +3,9 @@ ghost use Rattle.design_model.specs.declared.design.TheConstants.{MAX_COMMANDS};
 ghost use Rattle.std.specs.Prelude.{◌≡◌, ◌≤◌, ◌+◌, ◌++◌, IfOk, OnOk, length, neg_ℤ, string_bytes};
 
 use crate::place_texts::put_places;
-use crate::thread_names::thread_name;
 use design_model::{Bytes, Design, Extent, Memory, extent, height, width};
 use design_review::{BlockSummary, ReviewLimits, block_summaries, review};
+use picture_parts::thread_name;
 use std::alloc::Global;
 
 /// Returns the report of `look` on a design.

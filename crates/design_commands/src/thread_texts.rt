@@ -3,10 +3,9 @@ ghost use Rattle.design_model.specs.declared.design.TheConstants.{MAX_COMMANDS};
 ghost use Rattle.std.specs.Prelude.{◌≡◌, ◌≤◌, ◌<◌, ◌+◌, ◌++◌, IfOk, OnOk, length};
 
 use crate::look_texts::describe_length;
-use crate::thread_names::thread_name;
 use design_model::{Bytes, Design, Memory};
 use design_review::{BlockSummary, block_summaries};
-use picture_parts::thread_colour;
+use picture_parts::{thread_colour, thread_name};
 use std::alloc::Global;
 
 /// The number of threads of the palette.

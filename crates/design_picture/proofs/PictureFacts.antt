@@ -11,6 +11,7 @@ use Rattle.design_picture.specs.Hoops.{hoop_as_fits, offset_text}
 use Rattle.design_picture.specs.Layouts.{area_of, sheet_of}
 use Rattle.design_picture.specs.Threads.{arc_text, arrow_shape, hole_shape, travel_shape}
 use Rattle.hoop_check.specs.declared.fitting.Fit.TheVariants as fit
+use Rattle.picture_parts.specs.AgainColours.{again_colour_of}
 use Rattle.picture_parts.specs.Colours.{colour_of_thread}
 use Rattle.design_model.specs.Lengths.{length_of, square_of, whole_root}
 use Rattle.picture_parts.specs.Parts.{around, filled}
@@ -74,8 +75,10 @@ pub known_holes : layer_text layer.Holes shown_strokes ≡ codes "M0,0h0M30,0h0M
 unfolding around digits hole_shape
 known_holes = refl
 
-pub known_seconds : layer_text layer.Seconds shown_strokes ≡ (10 ∷ codes "M30,0A30,30,0,0,1,0,0")
-unfolding around filled digits move_text arc_text square_of
+-- What is sewn again of the second block would be orange on its thread 2, Blue.
+pub known_seconds : layer_text layer.Seconds shown_strokes ≡ (10 ∷ codes "M30,0A30,30,0,0,1,0,0'/>")
+    ++ (10 ∷ codes "<path class='again' stroke='#ff6a00' d='")
+unfolding again_colour_of around coloured_path colour_of_thread filled digits move_text arc_text path_end square_of
 known_seconds = refl
 
 pub known_arrows : layer_text layer.Arrows shown_strokes ≡ codes "<path class='arrow' d='M30,0A30,30,0,0,1,0,0'/>" ++ 10 ∷ []

@@ -1,15 +1,15 @@
 -- The strokes of the acts that are left, and the pen after them, one act at a time.
 use Rattle.std.proofs.Common.{◌≡◌, List, ◌∷◌, ◌++◌, ap, sym, ◌∙◌}
-use Rattle.design_picture.proofs.Names.{NumberedAct, DesignValue, Pen, Stroke, pen_after, StitchPasses, pen_along, strokes_from}
+use Rattle.design_picture.proofs.Names.{NumberedAct, DesignValue, Pen, Stroke, pen_after, SewnSoFar, pen_along, strokes_from}
 
 -- The stroke of the next act is added.
-pub shows_next : (d : DesignValue) (pen pen' : Pen) (passes passes' : StitchPasses) (a : NumberedAct) (acts rest : List NumberedAct)
+pub shows_next : (d : DesignValue) (pen pen' : Pen) (sewn sewn' : SewnSoFar) (a : NumberedAct) (acts rest : List NumberedAct)
     (old new whole : List Stroke) → acts ≡ a ∷ rest → pen' ≡ pen_after pen a.act
-    → new ++ strokes_from d (pen_after pen a.act) passes' rest ≡ old ++ strokes_from d pen passes (a ∷ rest)
-    → old ++ strokes_from d pen passes acts ≡ whole → new ++ strokes_from d pen' passes' rest ≡ whole
-shows_next d pen pen' passes passes' a acts rest old new whole is after adds before =
-    ap (λ (p : Pen). new ++ strokes_from d p passes' rest) after ∙ adds
-    ∙ ap (λ (left : List NumberedAct). old ++ strokes_from d pen passes left) (sym is) ∙ before
+    → new ++ strokes_from d (pen_after pen a.act) sewn' rest ≡ old ++ strokes_from d pen sewn (a ∷ rest)
+    → old ++ strokes_from d pen sewn acts ≡ whole → new ++ strokes_from d pen' sewn' rest ≡ whole
+shows_next d pen pen' sewn sewn' a acts rest old new whole is after adds before =
+    ap (λ (p : Pen). new ++ strokes_from d p sewn' rest) after ∙ adds
+    ∙ ap (λ (left : List NumberedAct). old ++ strokes_from d pen sewn left) (sym is) ∙ before
 
 -- The pen goes on from the next act.
 pub moves_next : (pen pen' last : Pen) (a : NumberedAct) (acts rest : List NumberedAct) → acts ≡ a ∷ rest → pen' ≡ pen_after pen a.act

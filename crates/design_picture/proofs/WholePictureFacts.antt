@@ -7,17 +7,21 @@ use Rattle.design_picture.proofs.PictureFacts.{point}
 use Rattle.design_model.specs.declared.command.Command.TheVariants.{Stitch, Jump}
 use Rattle.design_model.specs.declared.command.Command.TheVariants as command
 use Rattle.design_picture.specs.Captions.{block_start, block_words, caption, group_end, key_text}
-use Rattle.design_picture.specs.Hoops.{hoop_end, hoop_start, hoop_text, offset_text}
+use Rattle.design_picture.specs.Hoops.{hoop_end, hoop_key_end, hoop_key_start, hoop_start, hoop_text, offset_text}
 use Rattle.design_picture.specs.Layers.{path_layer}
 use Rattle.design_picture.specs.Layouts.{below_start, title_text, top_text}
-use Rattle.design_picture.specs.Pictures.{below_text, framed_text, middle_mark, over_text, picture_of, picture_with, threads_text}
+use Rattle.design_picture.specs.Pictures.{below_text, framed_text, middle_mark, over_text, picture_of, picture_with, seconds_text, sewn_text_of, threads_text}
+use Rattle.design_picture.specs.PlainPictures.{plain_picture_of, plain_picture_with}
 use Rattle.design_picture.specs.StrokeMarks.{piece_number}
 use Rattle.design_picture.specs.Threads.{arc_text, arrow_shape, hole_shape, travel_shape}
+use Rattle.picture_parts.specs.AgainColours.{again_colour_of}
 use Rattle.picture_parts.specs.Colours.{colour_of_thread}
 use Rattle.design_model.specs.Lengths.{length_of, square_of, whole_root}
 use Rattle.picture_parts.specs.Marks.{mark_text, shape_at}
 use Rattle.picture_parts.specs.Parts.{around, filled}
 use Rattle.picture_parts.specs.Paths.{coloured_path, move_text, path_end, path_start, straight_text}
+use Rattle.picture_parts.specs.PlainSheets.{plain_foot_text, plain_head_text, plain_title_text}
+use Rattle.picture_parts.specs.ThreadNames.{name_of_thread}
 use Rattle.picture_parts.specs.Sheets.{foot_text, head_text, style_text}
 
 -- Four stitches of 3 mm forth and back, one of 0.6 mm, a trim and a stop. Then, 5 mm away, a stitch of 0.7 mm, a float of 1.5 mm, a
@@ -34,10 +38,10 @@ design = record {
 }
 
 -- The design has 4 mm by 7.1 mm and fits a hoop of 10 mm by 5 mm only turned. At a side are 6 mm and half of 1 mm, above 6 mm and half
--- of 2.9 mm, rounded up. The sheet has 56 mm for the texts and 6.5 mm at each side, and 7.1, 15, 19 and two lines of 2.8 mm.
+-- of 2.9 mm, rounded up. The sheet has 56 mm for the texts and 6.5 mm at each side, and 7.1, 15, 19 and three lines of 2.8 mm.
 abbrev top : List ℕ
-top = codes "<svg xmlns='http://www.w3.org/2000/svg' width='69.0mm' height='46.7mm' viewBox='10,-20,690,467'>"
-    ++ (10 ∷ codes "<path fill='#d9d1be' d='M10,-20h690v467h-690z'/>" ++ (10 ∷ style_text
+top = codes "<svg xmlns='http://www.w3.org/2000/svg' width='69.0mm' height='49.5mm' viewBox='10,-20,690,495'>"
+    ++ (10 ∷ codes "<path fill='#d9d1be' d='M10,-20h690v495h-690z'/>" ++ (10 ∷ style_text
     ++ (codes "<title>Embroidery A&amp;B</title>"
     ++ (10 ∷ codes "<desc>Each thread is sewn from its triangle to its square, along the arrows. "
     ++ (codes "A stitch that is sewn again is drawn beside the first.</desc>"
@@ -57,6 +61,11 @@ threads = codes "<path class='travel' d='M10,-14L50,16'/>" ++ (10 ∷ codes "<pa
     ++ (10 ∷ codes "M10,-20L40,-20A30,30,0,0,1,10,-20A18,18,0,0,1,40,-20A15,15,0,0,1,10,-20L10,-14'/>"
     ++ (10 ∷ codes "<path class='thread' stroke='#e8a900' d='" ++ (10 ∷ codes "M50,16L50,23" ++ (10 ∷ codes "M41,11"
     ++ (10 ∷ codes "M41,51'/>" ++ 10 ∷ []))))))))
+
+-- What is sewn again, in dashes: blue on Mint Green; of Deep Gold there is nothing.
+abbrev seconds : List ℕ
+seconds = codes "<path class='again' stroke='#1d3bd1' d='" ++ (10 ∷ codes "M40,-20A30,30,0,0,1,10,-20" ++ (10 ∷ codes "M10,-20A18,18,0,0,1,40,-20"
+    ++ (10 ∷ codes "M40,-20A15,15,0,0,1,10,-20'/>" ++ (10 ∷ codes "<path class='again' stroke='#1d3bd1' d=''/>" ++ 10 ∷ []))))
 
 -- The needle holes, without that of the stitch of 0.6 mm. Arrows at the second and the fourth pass, before which are 2.5 and 3 mm, and
 -- 6 mm of thread.
@@ -87,14 +96,16 @@ below = codes "<g transform='translate(10,51) translate(0,75)'>"
     ++ (10 ∷ codes "<text y='72'>needles 10, pieces 3, trims 2, stops 1</text>"
     ++ (10 ∷ codes "<text y='100'>thread 14.8 mm, travel 9.0 mm</text>" ++ 10 ∷ []))))
 
--- The lines of the two blocks, and the ends of the four groups.
+-- The lines of the two blocks and of the hoop, and the ends of the groups.
 abbrev legend : List ℕ
 legend = codes "<g transform='translate(0,160)'>"
     ++ (10 ∷ codes "<g transform='translate(0,28)'><path stroke-width='14' d='M7,-7h26' stroke='#9ed67d'/>"
-    ++ (codes "<text x='52'>thread 10</text><text x='170'>needles 6</text><text x='350'>length 12.6 mm</text></g>"
+    ++ (codes "<text x='52'>thread 10</text><text class='small' x='165'>Mint Green</text><text x='305'>needles 6</text><text x='480'>12.6 mm</text></g>"
     ++ (10 ∷ codes "<g transform='translate(0,56)'><path stroke-width='14' d='M7,-7h26' stroke='#e8a900'/>"
-    ++ (codes "<text x='52'>thread 11</text><text x='170'>needles 4</text><text x='350'>length 2.2 mm</text></g>"
-    ++ (10 ∷ codes "</g>" ++ (10 ∷ codes "</g>" ++ (10 ∷ codes "</g>" ++ (10 ∷ codes "</svg>" ++ 10 ∷ []))))))))
+    ++ (codes "<text x='52'>thread 11</text><text class='small' x='165'>Deep Gold</text><text x='305'>needles 4</text><text x='480'>2.2 mm</text></g>"
+    ++ (10 ∷ codes "</g>" ++ (10 ∷ codes "<g transform='translate(0,244)'><text class='small'>hoop 10.0 x 5.0 mm: fits turned</text>"
+    ++ (codes "<path class='line' d='M498,-6m-9,0l9,-9l9,9l-9,9z'/><text class='small' x='514'>middle</text></g>"
+    ++ (10 ∷ codes "</g>" ++ (10 ∷ codes "</g>" ++ (10 ∷ codes "</svg>" ++ 10 ∷ []))))))))))
 
 -- Each shape of the key is that of its mark, around the height 121, and the words follow it.
 abbrev key : List ℕ
@@ -104,15 +115,29 @@ key = codes "<path class='start' d='M2,112l18,9l-18,9z'/><text class='small' x='
     ++ (codes "<path class='stop' d='M300,114h4v14h-4zm8,0h4v14h-4z'/><text class='small' x='322' y='127'>stop</text>"
     ++ (codes "<path class='trim' d='M376,115l12,12m-12,0l12,-12'/><text class='small' x='398' y='127'>trim</text>"
     ++ (codes "<path class='travel' d='M448,121h30h1'/><text class='small' x='490' y='127'>travel</text>"
-    ++ (10 ∷ codes "<text class='small' y='153'>A stitch that is sewn again is drawn beside the first.</text>" ++ 10 ∷ []))))))
+    ++ (10 ∷ codes "<text class='small' y='153'>Sewn again: beside the first, with dashes of blue or of orange.</text>" ++ 10 ∷ []))))))
 
 pub known_key : key_text ≡ key
 known_key = refl
 
 pub known_picture : picture_of design (Some (record { width = 100; height = 50 }))
-    ≡ top ++ (frame ++ (threads ++ (holes_and_arrows ++ (marks ++ (below ++ (key ++ legend))))))
-unfolding arc_text around arrow_shape below_start below_text block_start block_words caption coloured_path colour_of_thread digits filled
-    foot_text framed_text group_end head_text hole_shape hoop_end hoop_start hoop_text length_of mark_text middle_mark move_text offset_text
-    over_text path_end path_layer path_start picture_with piece_number shape_at square_of straight_text threads_text title_text top_text
+    ≡ top ++ (frame ++ (threads ++ (seconds ++ (holes_and_arrows ++ (marks ++ (below ++ (key ++ legend)))))))
+unfolding again_colour_of arc_text around arrow_shape below_start below_text block_start block_words caption coloured_path colour_of_thread digits filled
+    foot_text framed_text group_end head_text hole_shape hoop_end hoop_key_end hoop_key_start hoop_start hoop_text length_of mark_text middle_mark move_text name_of_thread offset_text
+    over_text path_end path_layer path_start picture_with piece_number seconds_text sewn_text_of shape_at square_of straight_text threads_text title_text top_text
     travel_shape whole_root
 known_picture = refl
+
+-- The thread alone on the colour fafbfc: the sheet has 6 mm around 4 mm by 7.1 mm.
+pub known_plain : plain_picture_of design (codes "fafbfc")
+    ≡ codes "<svg xmlns='http://www.w3.org/2000/svg' width='16.0mm' height='19.1mm' viewBox='10,-20,160,191'>"
+    ++ (10 ∷ codes "<path fill='#fafbfc' d='M10,-20h160v191h-160z'/>"
+    ++ (10 ∷ codes "<style>.thread{fill:none;stroke-width:3;stroke-linecap:round;stroke-linejoin:round}</style>"
+    ++ (10 ∷ codes "<title>Embroidery A&amp;B</title>" ++ (10 ∷ codes "<g transform='translate(60,60)'>"
+    ++ (10 ∷ codes "<path class='thread' stroke='#9ed67d' d='"
+    ++ (10 ∷ codes "M10,-20L40,-20A30,30,0,0,1,10,-20A18,18,0,0,1,40,-20A15,15,0,0,1,10,-20L10,-14'/>"
+    ++ (10 ∷ codes "<path class='thread' stroke='#e8a900' d='" ++ (10 ∷ codes "M50,16L50,23" ++ (10 ∷ codes "M41,11"
+    ++ (10 ∷ codes "M41,51'/>" ++ (10 ∷ codes "</g>" ++ (10 ∷ codes "</svg>" ++ 10 ∷ []))))))))))))
+unfolding arc_text around coloured_path colour_of_thread digits filled length_of move_text path_end plain_foot_text plain_head_text
+    plain_picture_with plain_title_text square_of straight_text whole_root
+known_plain = refl

@@ -10,6 +10,7 @@ use Rattle.design_picture.specs.declared.strokes.Stroke.{Stroke}
 use Rattle.design_picture.specs.declared.strokes.Stroke.TheVariants.{Begin, Float, Sewn, Trim, Stop}
 use Rattle.picture_parts.specs.Colours.{colour_of_thread}
 use Rattle.picture_parts.specs.Parts.{ended, filled, mm_text}
+use Rattle.picture_parts.specs.ThreadNames.{name_of_thread}
 
 -- What the marks mean.
 abbrev pub key_text : List ℕ
@@ -24,8 +25,8 @@ key_text =
     ++ (codes "5l12,12m-12,0l12,-12'/>"
     ++ (codes "<text class='small' x='398' y='127'>trim</text><path class='travel' d='M448,"
     ++ (codes "121h30h1'/><text class='small' x='490' y='127'>travel</text>"
-    ++ (10 ∷ codes "<text class='small' y='153'>A stitch that is sewn again is drawn beside the "
-    ++ (ended (codes "first.</text>"))))))))))))
+    ++ (10 ∷ codes "<text class='small' y='153'>Sewn again: beside the first, with dashes of blue "
+    ++ (ended (codes "or of orange.</text>"))))))))))))
 
 -- Counts, lengths and the meaning of the marks, before the lines of the legend.
 unfoldable pub caption : Counts → Pen → List ℕ
@@ -45,10 +46,11 @@ block_start block colour thread = filled (codes "<g transform='translate(0,@)'><
     ++ codes "='14' d='M7,-7h26' stroke='@'/><text x='52'>thread @")
     (decimal (LINE_HEIGHT * block) ∷ colour ∷ decimal thread ∷ [])
 
--- The needles and the length of a block.
+-- The name of the thread, the needles and the length of a block.
 unfoldable pub block_words : BlockEnd → List ℕ
-block_words block = filled (codes "</text><text x='170'>needles @</text><text x='350'>length @ mm"
-    ++ ended (codes "</text></g>")) (decimal block.needles ∷ mm_text (block.sewn / 100) ∷ [])
+block_words block = filled (codes "</text><text class='small' x='165'>@</text><text x='305'>"
+    ++ (codes "needles @</text><text x='480'>@ mm" ++ ended (codes "</text></g>")))
+    (name_of_thread block.thread ∷ decimal block.needles ∷ mm_text (block.sewn / 100) ∷ [])
 
 -- The line of a block.
 abbrev pub block_line : BlockEnd → List ℕ

@@ -1,14 +1,84 @@
 -- A hoop around a design: both have one middle. The hoop is turned where the design fits it only
--- so, and red where the design doesn't fit.
-use Rattle.std.specs.Prelude.{ℕ, ◌-◌, ◌*◌, nat_le, List, [], ◌∷◌, ◌++◌, Some, codes, if◌then◌else◌}
+-- so, and red where the design doesn't fit. Then stitches outside the hoop are red too.
+use Rattle.std.specs.Prelude.{ℕ, ℤ, ◌+◌, ◌-◌, ◌*◌, ◌/◌, ◌-ℤ◌, ◌||◌, unsigned_abs, Bool, nat_le, nat_lt, List, [], ◌∷◌, ◌++◌, Some, codes, if◌then◌else◌}
 use Rattle.std.specs.Fmt.{decimal}
 use Rattle.design_model.specs.declared.bounds.Extent.{Extent}
 use Rattle.design_model.specs.declared.point.Point.{Point}
 use Rattle.design_model.specs.Extents.{extent_height, extent_width}
+use Rattle.design_picture.specs.declared.block_line.TheConstants.{LINE_HEIGHT}
 use Rattle.design_picture.specs.declared.hoop.Hoop.{Hoop}
+use Rattle.design_picture.specs.declared.hoop.Rim.{Rim}
+use Rattle.design_picture.specs.declared.strokes.SewnStitch.{SewnStitch}
+use Rattle.design_picture.specs.declared.strokes.Stroke.{Stroke}
+use Rattle.design_picture.specs.declared.strokes.Stroke.TheVariants.{Begin, Float, Sewn, Trim, Stop}
+use Rattle.design_picture.specs.Threads.{sewn_text}
 use Rattle.hoop_check.specs.declared.fitting.Fit.{Fit}
 use Rattle.hoop_check.specs.declared.fitting.Fit.TheVariants as fit
 use Rattle.picture_parts.specs.Parts.{ended, filled, mm_text, point_text}
+use Rattle.picture_parts.specs.Paths.{move_text}
+
+-- What a hoop that is smaller than a design leaves out at each of two sides: half of the
+-- difference, rounded up, or 0.
+abbrev pub left_out : ℕ → ℕ → ℕ
+left_out hoop design = (design - hoop + 1) / 2
+
+-- The rim of an extent that lies outside a hoop with the same middle.
+abbrev pub rim_of : Extent → Hoop → Rim
+rim_of extent hoop = record {
+  corners = extent;
+  across = left_out hoop.width (extent_width (Some extent));
+  down = left_out hoop.height (extent_height (Some extent));
+}
+
+-- Two coordinates are nearer to each other than a length.
+abbrev pub is_nearer : ℕ → ℤ → ℤ → Bool
+is_nearer length a b = nat_lt (unsigned_abs (a -ℤ b)) length
+
+-- A point of the extent is on the rim, outside the hoop.
+abbrev pub is_outside : Rim → Point → Bool
+is_outside rim p = is_nearer rim.across p.x rim.corners.min.x
+    || (is_nearer rim.across rim.corners.max.x p.x
+    || (is_nearer rim.down p.y rim.corners.min.y || is_nearer rim.down rim.corners.max.y p.y))
+
+-- A stitch that begins or ends outside the hoop, once more.
+abbrev pub outside_shape : Rim → SewnStitch → List ℕ
+outside_shape rim stitch = if is_outside rim stitch.from || is_outside rim stitch.at
+    then move_text stitch.from ++ sewn_text stitch else []
+
+-- The stitch of a stroke that begins or ends outside the hoop.
+abbrev pub outside_text : Rim → Stroke → List ℕ
+outside_text rim (Begin start) = []
+outside_text rim (Float from p) = []
+outside_text rim (Sewn stitch) = outside_shape rim stitch
+outside_text rim (Trim p) = []
+outside_text rim (Stop ended next) = []
+
+-- By how much a design is too large for a hoop.
+unfoldable pub too_large : ℕ → ℕ → List ℕ
+too_large over_x over_y = filled (codes "too large by @ x @ mm")
+    (mm_text over_x ∷ mm_text over_y ∷ [])
+
+-- What the key says of a design in a hoop.
+abbrev pub fit_words : Fit → List ℕ
+fit_words fit.Upright = codes "fits"
+fit_words fit.Turned = codes "fits turned"
+fit_words (fit.No over_x over_y) = too_large over_x over_y
+
+-- The beginning of the key's line of a hoop, below so many lines: its size.
+unfoldable pub hoop_key_start : ℕ → Hoop → List ℕ
+hoop_key_start lines hoop = filled (codes "<g transform='translate(0,@)'><text class='small'>"
+    ++ codes "hoop @ x @ mm: ")
+    (decimal (160 + LINE_HEIGHT * lines + LINE_HEIGHT) ∷ mm_text hoop.width
+    ∷ mm_text hoop.height ∷ [])
+
+-- The end of the key's line of a hoop: the mark of the middle.
+unfoldable pub hoop_key_end : List ℕ
+hoop_key_end = filled (codes "</text><path class='line' d='M498,-6m-9,0l9,-9l9,9l-9,9z'/><text "
+    ++ ended (codes "class='small' x='514'>middle</text></g>")) []
+
+-- The key's line of a hoop, below so many lines.
+abbrev pub hoop_key : ℕ → Hoop → Fit → List ℕ
+hoop_key lines hoop fit = hoop_key_start lines hoop ++ (fit_words fit ++ hoop_key_end)
 
 -- The hoop as a design fits it.
 abbrev pub hoop_as_fits : Hoop → Fit → Hoop

@@ -5,6 +5,7 @@ use Rattle.design_picture.specs.declared.layers.Layer.{Layer}
 use Rattle.design_picture.specs.declared.layers.Layer.TheVariants as layer
 use Rattle.design_picture.specs.declared.strokes.Stroke.{Stroke}
 use Rattle.design_picture.specs.Captions.{legend_text}
+use Rattle.design_picture.specs.Hoops.{outside_text}
 use Rattle.design_picture.specs.StrokeMarks.{stroke_marks}
 use Rattle.design_picture.specs.Threads.{arrow_text, hole_text, second_text, thread_text, travel_text}
 use Rattle.picture_parts.specs.Paths.{path_end, path_start}
@@ -14,6 +15,7 @@ abbrev pub stroke_text : Layer → Stroke → List ℕ
 stroke_text layer.Travels stroke = travel_text stroke
 stroke_text layer.Threads stroke = thread_text stroke
 stroke_text layer.Seconds stroke = second_text stroke
+stroke_text (layer.Outside rim) stroke = outside_text rim stroke
 stroke_text layer.Holes stroke = hole_text stroke
 stroke_text layer.Arrows stroke = arrow_text stroke
 stroke_text layer.Marks stroke = stroke_marks stroke

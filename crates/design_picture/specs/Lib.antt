@@ -1,5 +1,6 @@
 -- read this one first: what the picture of a design is
 pub mod Pictures
+pub mod PlainPictures
 pub mod Layouts
 pub mod Hoops
 pub mod Captions
@@ -11,3 +12,4 @@ pub mod Strokes
 pub mod Pens
 pub mod ShownActs
 pub mod Passes
+pub mod ArrowSquares

@@ -1,6 +1,7 @@
 -- The picture of a design: a text of SVG 1.1, the standard of the World Wide Web Consortium. The
 -- unit is a tenth of a millimetre, and the picture is shown in true size.
 use Rattle.std.specs.Prelude.{ℕ, ◌+◌, ◌*◌, ◌==◌, List, [], ◌∷◌, ◌++◌, Option, Some, None, codes, if◌then◌else◌}
+use Rattle.design_model.specs.declared.bounds.Extent.{Extent}
 use Rattle.design_model.specs.declared.point.Point.{Point}
 use Rattle.design_model.specs.Counts.{counts_of}
 use Rattle.design_model.specs.Designs.{DesignValue, thread_of}
@@ -11,12 +12,15 @@ use Rattle.design_picture.specs.declared.layout.Area.{Area}
 use Rattle.design_picture.specs.declared.pen.Pen.{Pen}
 use Rattle.design_picture.specs.declared.strokes.Stroke.{Stroke}
 use Rattle.design_picture.specs.Captions.{block_line, caption, group_end}
-use Rattle.design_picture.specs.Hoops.{hoop_as_fits, hoop_text}
+use Rattle.design_picture.specs.Hoops.{hoop_as_fits, hoop_key, hoop_text, rim_of}
 use Rattle.design_picture.specs.Layers.{layer_text, path_layer}
 use Rattle.design_picture.specs.Layouts.{area_of, below_start, corners, lower_left, top_text}
 use Rattle.design_picture.specs.Strokes.{block_end, pen_of, strokes_of}
+use Rattle.hoop_check.specs.declared.fitting.Fit.{Fit}
+use Rattle.hoop_check.specs.declared.fitting.Fit.TheVariants as fit
 use Rattle.hoop_check.specs.Fits.{fit_of}
 use Rattle.picture_parts.specs.declared.marks.Mark.TheVariants as mark
+use Rattle.picture_parts.specs.AgainColours.{again_colour_of}
 use Rattle.picture_parts.specs.Colours.{colour_of_thread}
 use Rattle.picture_parts.specs.Marks.{mark_text}
 use Rattle.picture_parts.specs.Parts.{ended, filled, mm_text, point_text}
@@ -56,15 +60,53 @@ unfoldable pub framed_text : DesignValue → Option Hoop → List ℕ
 framed_text d hoop = middle_mark (corners (extent_of d)).min (extent_width (extent_of d))
     (extent_height (extent_of d)) ++ hoop_if_given d hoop
 
--- The area of a design: its legend has a line for each block.
+-- The key's lines of a hoop.
+abbrev pub hoop_lines : Option Hoop → ℕ
+hoop_lines (Some hoop) = 1
+hoop_lines None = 0
+
+-- The area of a design: its legend has a line for each block, and one for a hoop.
 abbrev pub design_area : DesignValue → Option Hoop → Pen → Area
-design_area d hoop pen = area_of (extent_of d) (shown_hoop d hoop) (pen.stops + 1)
+design_area d hoop pen =
+    area_of (extent_of d) (shown_hoop d hoop) (pen.stops + 1 + hoop_lines hoop)
+
+-- The thread of all blocks of a design.
+abbrev pub thread_paths : DesignValue → List Stroke → List ℕ
+thread_paths d strokes = coloured_path (codes "thread") (colour_of_thread (thread_of d 0))
+    ++ (layer_text layer.Threads strokes ++ path_end)
 
 -- The loose ways of a design, and the thread of all blocks.
 unfoldable pub threads_text : DesignValue → List Stroke → List ℕ
-threads_text d strokes = layer_text layer.Travels strokes
-    ++ (coloured_path (codes "thread") (colour_of_thread (thread_of d 0))
-    ++ (layer_text layer.Threads strokes ++ path_end))
+threads_text d strokes = layer_text layer.Travels strokes ++ thread_paths d strokes
+
+-- What is sewn again, in dashes of a colour away from the thread's.
+unfoldable pub seconds_text : DesignValue → List Stroke → List ℕ
+seconds_text d strokes = coloured_path (codes "again") (again_colour_of (thread_of d 0))
+    ++ (layer_text layer.Seconds strokes ++ path_end)
+
+-- The stitches outside a hoop that a design doesn't fit.
+abbrev pub outside_layer : Extent → Hoop → Fit → List Stroke → List ℕ
+outside_layer extent hoop fit.Upright strokes = []
+outside_layer extent hoop fit.Turned strokes = []
+outside_layer extent hoop (fit.No over_x over_y) strokes =
+    path_layer (codes "outside") (layer.Outside (rim_of extent hoop)) strokes
+
+-- The stitches outside the hoop, if there is one.
+abbrev pub outside_if_given : DesignValue → Option Hoop → List Stroke → List ℕ
+outside_if_given d (Some hoop) strokes = outside_layer (corners (extent_of d)) hoop
+    (fit_of d hoop.width hoop.height) strokes
+outside_if_given d None strokes = []
+
+-- The key's line of the hoop, if there is one.
+abbrev pub hoop_key_if_given : DesignValue → Option Hoop → Pen → List ℕ
+hoop_key_if_given d (Some hoop) pen =
+    hoop_key (pen.stops + 1) hoop (fit_of d hoop.width hoop.height)
+hoop_key_if_given d None pen = []
+
+-- The thread, what is sewn again, and what lies outside the hoop.
+unfoldable pub sewn_text_of : DesignValue → Option Hoop → List Stroke → List ℕ
+sewn_text_of d hoop strokes = threads_text d strokes
+    ++ (seconds_text d strokes ++ outside_if_given d hoop strokes)
 
 -- The mark where the last thread ends, if a needle was sewn.
 abbrev pub last_mark : Pen → List ℕ
@@ -85,8 +127,9 @@ below_text d area strokes pen = below_start (lower_left area.corners) area.above
 -- The picture of strokes that a design has.
 unfoldable pub picture_with : DesignValue → Option Hoop → List Stroke → Pen → List ℕ
 picture_with d hoop strokes pen = design_top d (design_area d hoop pen) ++ (framed_text d hoop
-    ++ (threads_text d strokes ++ (over_text strokes pen
-    ++ (below_text d (design_area d hoop pen) strokes pen ++ foot_text))))
+    ++ (sewn_text_of d hoop strokes ++ (over_text strokes pen
+    ++ (below_text d (design_area d hoop pen) strokes pen
+    ++ (hoop_key_if_given d hoop pen ++ foot_text)))))
 
 -- The picture of a design.
 abbrev pub picture_of : DesignValue → Option Hoop → List ℕ

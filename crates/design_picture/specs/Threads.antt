@@ -8,6 +8,7 @@ use Rattle.design_picture.specs.declared.strokes.SewnStitch.{SewnStitch}
 use Rattle.design_picture.specs.declared.strokes.Stroke.{Stroke}
 use Rattle.design_picture.specs.declared.strokes.Stroke.TheVariants.{Begin, Float, Sewn, Trim, Stop}
 use Rattle.design_picture.specs.declared.threads.TheConstants.{MIN_SHOWN}
+use Rattle.picture_parts.specs.AgainColours.{again_colour_of}
 use Rattle.picture_parts.specs.Colours.{colour_of_thread}
 use Rattle.design_model.specs.Lengths.{square_of}
 use Rattle.picture_parts.specs.Parts.{around, ended, filled, point_text}
@@ -47,13 +48,17 @@ abbrev pub second_shape : SewnStitch → List ℕ
 second_shape stitch =
     if stitch.pass == 0 then [] else move_text stitch.from ++ arc_text (bow_of stitch) stitch.at
 
--- The stitch of a stroke, if it was sewn before.
+-- What is sewn again of the next block.
+abbrev pub again_change_text : ℕ → List ℕ
+again_change_text thread = path_end ++ coloured_path (codes "again") (again_colour_of thread)
+
+-- The stitch of a stroke, if it was sewn before; at a stop the colour changes.
 abbrev pub second_text : Stroke → List ℕ
 second_text (Begin start) = []
 second_text (Float from p) = []
 second_text (Sewn stitch) = second_shape stitch
 second_text (Trim p) = []
-second_text (Stop ended next) = []
+second_text (Stop ended next) = again_change_text next
 
 -- A stitch is long enough for its needle holes to be distinguished.
 abbrev pub is_long : Point → Point → Bool

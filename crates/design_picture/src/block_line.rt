@@ -3,7 +3,7 @@ ghost use Rattle.std.specs.Prelude.{◌≡◌, ◌++◌, OnOk};
 
 use crate::strokes::{BlockEnd, Stroke};
 use design_model::{Bytes, Memory};
-use picture_parts::{Part, put, thread_colour};
+use picture_parts::{Part, put, thread_colour, thread_name};
 
 /// The height of a line of text below the picture, in tenths of a millimetre.
 pub const LINE_HEIGHT: u64 = 28;
@@ -18,7 +18,7 @@ pub(crate) fn put_block_line(text: &mut Bytes, stroke: Stroke) -> Result<(), Mem
     }
 }
 
-/// Appends the line of a block: its colour, its thread, its needles, and the thread that it takes.
+/// Appends the line of a block: its colour, its thread with its name, its needles, and the thread that it takes.
 pub(crate) fn put_block(text: &mut Bytes, block: BlockEnd) -> Result<(), Memory>
     ensures { OnOk result (text.new ≡ text.old ++ block_line block) }
 {
@@ -54,8 +54,9 @@ fn put_words(text: &mut Bytes, block: BlockEnd) -> Result<(), Memory>
 {
     put(
         text,
-        b"</text><text x='170'>needles @</text><text x='350'>length @ mm</text></g>\n",
+        b"</text><text class='small' x='165'>@</text><text x='305'>needles @</text><text x='480'>@ mm</text></g>\n",
         &[
+            Part::Text(thread_name(block.thread)),
             Part::Number(block.needles as u128),
             Part::Mm(block.sewn / 100),
         ],

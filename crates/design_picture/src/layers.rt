@@ -2,6 +2,7 @@ ghost use Rattle.design_picture.specs.Layers.{layer_text, path_layer, stroke_tex
 ghost use Rattle.std.specs.Prelude.{◌≡◌, ◌++◌, OnOk};
 
 use crate::block_line::put_block_line;
+use crate::hoop::{Rim, put_outside};
 use crate::marks::put_stroke_marks;
 use crate::strokes::Stroke;
 use crate::threads::{put_arrow, put_hole, put_second, put_thread, put_travel};
@@ -17,6 +18,8 @@ pub enum Layer {
     Threads,
     /// The stitches that were sewn before.
     Seconds,
+    /// The stitches that begin or end outside a hoop.
+    Outside(Rim),
     /// The needle holes.
     Holes,
     /// The arrows along the thread.
@@ -44,6 +47,7 @@ fn put_stroke(text: &mut Bytes, layer: Layer, stroke: Stroke) -> Result<(), Memo
         Layer::Travels => put_travel(text, stroke),
         Layer::Threads => put_thread(text, stroke),
         Layer::Seconds => put_second(text, stroke),
+        Layer::Outside(rim) => put_outside(text, rim, stroke),
         Layer::Holes => put_hole(text, stroke),
         Layer::Arrows => put_arrow(text, stroke),
         Layer::Marks => put_stroke_marks(text, stroke),

@@ -2,6 +2,7 @@
 //! with what is sewn again beside what was sewn before, and marks where pieces, threads, trims and stops are.
 #![tactic(auto)]
 
+mod arrow_squares;
 mod block_line;
 mod caption;
 mod hoop;
@@ -10,6 +11,8 @@ mod layout;
 mod links;
 mod marks;
 mod pen;
+mod plain;
+mod sewn_stitches;
 mod showing;
 mod strokes;
 mod theorems;
@@ -17,10 +20,11 @@ mod threads;
 
 pub use block_line::{LINE_HEIGHT, put_block_start};
 pub use caption::put_group_end;
-pub use hoop::Hoop;
+pub use hoop::{Hoop, Rim};
 pub use layers::{Layer, put_path_layer};
 pub use layout::{Area, area_of, put_below_start, put_top};
 pub use pen::Pen;
-pub use showing::{picture, put_below, put_design_top, put_over, put_threads};
+pub use plain::plain_picture;
+pub use showing::{picture, put_below, put_design_top, put_over, put_seconds, put_threads};
 pub use strokes::{BlockEnd, PieceStart, SewnStitch, Stroke, Strokes, put_strokes};
 pub use theorems::strokes_show_acts;

@@ -1,19 +1,20 @@
 ghost use Rattle.design_model.specs.declared.design.TheConstants.{MAX_COMMANDS};
 ghost use Rattle.design_picture.specs.Pens.{HasCounted};
-ghost use Rattle.design_picture.specs.Pictures.{below_text, design_area, design_top, framed_text, hoop_if_given, last_mark, middle_mark, over_text, picture_of, picture_with, shown_hoop, threads_text};
+ghost use Rattle.design_picture.specs.Pictures.{below_text, design_area, design_top, framed_text, hoop_if_given, hoop_key_if_given, hoop_lines, last_mark, middle_mark, outside_if_given, outside_layer, over_text, picture_of, picture_with, seconds_text, sewn_text_of, shown_hoop, thread_paths, threads_text};
 ghost use Rattle.std.specs.Prelude.{◌≡◌, ◌++◌, IfOk, OnOk, ◌<◌, ◌^◌};
 
 use crate::block_line::put_block;
 use crate::caption::{put_caption, put_group_end};
-use crate::hoop::{Hoop, as_fits, put_hoop};
+use crate::hoop::{Hoop, as_fits, put_hoop, put_hoop_key, rim_outside};
 use crate::layers::{Layer, put_layer, put_path_layer};
 use crate::layout::{Area, area_of, corners_in, put_below_start, put_top};
 use crate::pen::Pen;
 use crate::strokes::{Stroke, Strokes, ended, put_strokes};
-use design_model::{Bytes, Design, Memory, Point, counts, extent, height, width};
-use hoop_check::fits;
+use design_model::{Bytes, Design, Extent, Memory, Point, counts, extent, height, width};
+use hoop_check::{Fit, fits};
 use picture_parts::{
-    Mark, Part, put, put_coloured_path, put_foot, put_mark, put_path_end, thread_colour,
+    Mark, Part, again_colour, put, put_coloured_path, put_foot, put_mark, put_path_end,
+    thread_colour,
 };
 use std::alloc::Global;
 
@@ -46,9 +47,10 @@ fn drawn(
     let area = area_in(design, hoop, pen);
     put_design_top(&mut text, design, area)?;
     put_framed(&mut text, design, hoop)?;
-    put_threads(&mut text, design, strokes)?;
+    put_sewn_threads(&mut text, design, hoop, strokes)?;
     put_over(&mut text, strokes, pen)?;
     put_below(&mut text, design, area, strokes, pen)?;
+    put_hoop_key_if_given(&mut text, design, hoop, pen)?;
     put_foot(&mut text)?;
     Ok(text)
 }
@@ -59,7 +61,19 @@ fn area_in(design: &Design, hoop: Option<Hoop>, pen: Pen) -> Area
     ensures side { result.side < 2 ^ 32 }
     ensures above { result.above < 2 ^ 32 }
 {
-    area_of(extent(design), hoop_shown(design, hoop), pen.stops + 1)
+    let lines = pen.stops + 1 + lines_of(hoop);
+    area_of(extent(design), hoop_shown(design, hoop), lines)
+}
+
+/// Returns the number of the key's lines of a hoop.
+fn lines_of(hoop: Option<Hoop>) -> u32
+    ensures value { result ≡ hoop_lines hoop }
+    ensures most { result < 2 }
+{
+    match hoop {
+        Some(_) => 1,
+        None => 0,
+    }
 }
 
 /// Appends what comes before the shapes of the picture of a design.
@@ -126,10 +140,103 @@ pub fn put_threads(text: &mut Bytes, design: &Design, strokes: &[Stroke]) -> Res
     ensures { OnOk result (text.new ≡ text.old ++ threads_text design.now strokes.now) }
 {
     put_layer(text, Layer::Travels, strokes)?;
+    put_thread_paths(text, design, strokes)?;
+    Ok(())
+}
+
+/// Appends the thread of all blocks.
+pub(crate) fn put_thread_paths(
+    text: &mut Bytes,
+    design: &Design,
+    strokes: &[Stroke],
+) -> Result<(), Memory>
+    ensures { OnOk result (text.new ≡ text.old ++ thread_paths design.now strokes.now) }
+{
     put_coloured_path(text, b"thread", thread_colour(design.thread(0)))?;
     put_layer(text, Layer::Threads, strokes)?;
     put_path_end(text)?;
     Ok(())
+}
+
+/// Appends what is sewn again, in dashes of a colour away from the thread's.
+#[tactic(auto, unfolding(crate::specs::Pictures::seconds_text))]
+pub fn put_seconds(text: &mut Bytes, design: &Design, strokes: &[Stroke]) -> Result<(), Memory>
+    ensures { OnOk result (text.new ≡ text.old ++ seconds_text design.now strokes.now) }
+{
+    put_coloured_path(text, b"again", again_colour(design.thread(0)))?;
+    put_layer(text, Layer::Seconds, strokes)?;
+    put_path_end(text)?;
+    Ok(())
+}
+
+/// Appends the thread, what is sewn again, and what lies outside the hoop.
+#[tactic(auto, unfolding(crate::specs::Pictures::sewn_text_of))]
+fn put_sewn_threads(
+    text: &mut Bytes,
+    design: &Design,
+    hoop: Option<Hoop>,
+    strokes: &[Stroke],
+) -> Result<(), Memory>
+    ensures { OnOk result (text.new ≡ text.old ++ sewn_text_of design.now hoop strokes.now) }
+{
+    put_threads(text, design, strokes)?;
+    put_seconds(text, design, strokes)?;
+    put_outside_if_given(text, design, hoop, strokes)?;
+    Ok(())
+}
+
+fn put_outside_if_given(
+    text: &mut Bytes,
+    design: &Design,
+    hoop: Option<Hoop>,
+    strokes: &[Stroke],
+) -> Result<(), Memory>
+    ensures { OnOk result (text.new ≡ text.old ++ outside_if_given design.now hoop strokes.now) }
+{
+    let Some(given) = hoop else {
+        return Ok(());
+    };
+    let fit = fits(design, given.width, given.height);
+    put_outside_layer(text, corners_in(extent(design)), given, fit, strokes)
+}
+
+/// Appends the stitches outside a hoop that a design doesn't fit.
+fn put_outside_layer(
+    text: &mut Bytes,
+    extent: Extent,
+    hoop: Hoop,
+    fit: Fit,
+    strokes: &[Stroke],
+) -> Result<(), Memory>
+    ensures { OnOk result (text.new ≡ text.old ++ outside_layer extent hoop fit strokes.now) }
+{
+    match fit {
+        Fit::Upright | Fit::Turned => Ok(()),
+        Fit::No { .. } => {
+            put_path_layer(
+                text,
+                b"outside",
+                Layer::Outside(rim_outside(extent, hoop)),
+                strokes,
+            )
+        }
+    }
+}
+
+fn put_hoop_key_if_given(
+    text: &mut Bytes,
+    design: &Design,
+    hoop: Option<Hoop>,
+    pen: Pen,
+) -> Result<(), Memory>
+    requires { HasCounted MAX_COMMANDS pen }
+    ensures { OnOk result (text.new ≡ text.old ++ hoop_key_if_given design.now hoop pen) }
+{
+    let Some(given) = hoop else {
+        return Ok(());
+    };
+    let fit = fits(design, given.width, given.height);
+    put_hoop_key(text, pen.stops + 1, given, fit)
 }
 
 /// Appends what lies over the thread: needle holes, arrows and marks.

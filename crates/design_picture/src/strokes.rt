@@ -2,18 +2,15 @@ ghost use Rattle.design_model.specs.Acts.{acts_along, numbered};
 ghost use Rattle.design_model.specs.Commands.{is_command_in_range};
 ghost use Rattle.design_model.specs.declared.act.NumberedAct.{NumberedAct as NumberedActValue};
 ghost use Rattle.design_model.specs.declared.design.TheConstants.{MAX_COMMANDS};
-ghost use Rattle.design_picture.specs.Passes.{is_same_stitch};
 ghost use Rattle.design_picture.specs.Pens.{HasCounted, first_pen, pen_after};
-ghost use Rattle.design_picture.specs.Strokes.{block_end, needle_passes, needle_stroke, passes_after, pen_along, pen_of, stop_stroke, stroke_of_act, strokes_from, strokes_of};
-ghost use Rattle.std.specs.HashMap.{get};
+ghost use Rattle.design_picture.specs.Strokes.{block_end, needle_added, needle_stroke, nothing_sewn, pen_along, pen_of, sewn_after, sewn_by, stop_stroke, stroke_of_act, strokes_from, strokes_of};
 ghost use Rattle.std.specs.List.{list_all};
-ghost use Rattle.std.specs.Prelude.{◌≡◌, ◌≤◌, ◌<◌, ◌+◌, ◌^◌, ◌∷◌, ◌++◌, ℕ, List, None, IfOk, IsTrue, OnOk, length};
+ghost use Rattle.std.specs.Prelude.{◌≡◌, ◌≤◌, ◌<◌, ◌+◌, ◌^◌, ◌∷◌, ◌++◌, ℕ, List, IfOk, IsTrue, OnOk, length};
 
-use crate::links::{PointPair, pass};
-use crate::pen::{ARROW_GAP, Pen};
+use crate::pen::Pen;
+use crate::sewn_stitches::SewnStitches;
 use design_model::{Act, ActScanner, Command, Design, Items, Memory, Point};
 use std::alloc::Global;
-use std::collections::HashMap;
 
 /// Where a block ends: at its last needle. Blocks count from 1, and the thread that was sewn is in
 /// thousandths of a millimetre.
@@ -81,18 +78,18 @@ fn put_along(
     requires count { length commands.now ≤ MAX_COMMANDS }
     requires in_range { IsTrue (list_all is_command_in_range commands.now) }
     ensures strokes { OnOk result (strokes.new ≡ strokes.old
-        ++ strokes_from design.now first_pen (λ stitch. None) (acts_along commands.now)) }
+        ++ strokes_from design.now first_pen nothing_sewn (acts_along commands.now)) }
     ensures pen { IfOk result (λ pen. pen ≡ pen_along first_pen (acts_along commands.now)) }
     ensures counted { IfOk result (HasCounted MAX_COMMANDS) }
 {
-    let mut passes = HashMap::new(alloc);
+    let mut sewn = SewnStitches::new(alloc);
     let mut pen = Pen::new();
     let mut scanner = ActScanner::new();
     for command in commands {
         let Some(act) = scanner.next(*command) else {
             continue;
         };
-        put_stroke(strokes, &mut passes, design, pen, act.act)?;
+        put_stroke(strokes, &mut sewn, design, pen, act.act)?;
         pen = pen.after(scanner.number - 1, act.act);
     }
     Ok(pen)
@@ -101,7 +98,7 @@ fn put_along(
 /// Adds the stroke of an act.
 fn put_stroke(
     strokes: &mut Strokes,
-    passes: &mut HashMap<PointPair, u32>,
+    sewn: &mut SewnStitches,
     design: &Design,
     pen: Pen,
     act: Act,
@@ -109,46 +106,34 @@ fn put_stroke(
     requires pieces { pen.pieces + 1 < 2 ^ 32 }
     requires stops { pen.stops + 1 < 2 ^ 32 }
     ensures { OnOk result ((n : ℕ) (rest : List NumberedActValue) →
-        strokes.new ++ strokes_from design.now (pen_after pen act) (get is_same_stitch passes.new) rest
-        ≡ strokes.old ++ strokes_from design.now pen (get is_same_stitch passes.old) (numbered n act ∷ rest)) }
+        strokes.new ++ strokes_from design.now (pen_after pen act) (sewn_by sewn.new) rest
+        ≡ strokes.old ++ strokes_from design.now pen (sewn_by sewn.old) (numbered n act ∷ rest)) }
 {
-    let shown = shown(passes, design, pen, act)?;
+    let shown = shown(sewn, design, pen, act)?;
     strokes.push(shown)?;
     Ok(())
 }
 
 /// Returns what a picture shows of an act, and counts its stitch.
-fn shown(
-    passes: &mut HashMap<PointPair, u32>,
-    design: &Design,
-    pen: Pen,
-    act: Act,
-) -> Result<Stroke, Memory>
+fn shown(sewn: &mut SewnStitches, design: &Design, pen: Pen, act: Act) -> Result<Stroke, Memory>
     requires pieces { pen.pieces + 1 < 2 ^ 32 }
     requires stops { pen.stops + 1 < 2 ^ 32 }
     ensures value { IfOk result (λ stroke. stroke
-        ≡ stroke_of_act design.now pen (get is_same_stitch passes.old) act) }
-    ensures passes { OnOk result (get is_same_stitch passes.new
-        ≡ passes_after pen (get is_same_stitch passes.old) act) }
+        ≡ stroke_of_act design.now pen (sewn_by sewn.old) act) }
+    ensures sewn { OnOk result (sewn_by sewn.new ≡ sewn_after pen (sewn_by sewn.old) act) }
 {
     match act {
-        Act::Needle { at, float } => needle(passes, pen, float, at),
+        Act::Needle { at, float } => needle(sewn, pen, float, at),
         Act::Trim => Ok(Stroke::Trim { at: pen.place }),
         Act::Stop => Ok(stop(design, pen)),
     }
 }
 
-fn needle(
-    passes: &mut HashMap<PointPair, u32>,
-    pen: Pen,
-    float: bool,
-    at: Point,
-) -> Result<Stroke, Memory>
+fn needle(sewn: &mut SewnStitches, pen: Pen, float: bool, at: Point) -> Result<Stroke, Memory>
     requires pieces { pen.pieces + 1 < 2 ^ 32 }
     ensures value { IfOk result (λ stroke. stroke
-        ≡ needle_stroke pen (get is_same_stitch passes.old) float at) }
-    ensures passes { OnOk result (get is_same_stitch passes.new
-        ≡ needle_passes pen (get is_same_stitch passes.old) float at) }
+        ≡ needle_stroke pen (sewn_by sewn.old) float at) }
+    ensures sewn { OnOk result (sewn_by sewn.new ≡ needle_added pen (sewn_by sewn.old) float at) }
 {
     let from = pen.place;
     if pen.loose {
@@ -162,13 +147,8 @@ fn needle(
     if float {
         return Ok(Stroke::Float { from, at });
     }
-    let pass = pass(passes, PointPair { from, to: at })?;
-    Ok(Stroke::Sewn(SewnStitch {
-        pass,
-        arrow: pen.since >= ARROW_GAP,
-        from,
-        at,
-    }))
+    let stitch = sewn.stitch(pen, at)?;
+    Ok(Stroke::Sewn(stitch))
 }
 
 fn stop(design: &Design, pen: Pen) -> Stroke

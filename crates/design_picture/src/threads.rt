@@ -1,10 +1,11 @@
-ghost use Rattle.design_picture.specs.Threads.{arc_text, arrow_shape, arrow_text, colour_change_text, hole_shape, hole_text, is_long, bow_of, second_shape, second_text, sewn_text, thread_text, travel_shape, travel_text, long_hole_text, arrow_if, way_text};
+ghost use Rattle.design_picture.specs.Threads.{again_change_text, arc_text, arrow_shape, arrow_text, colour_change_text, hole_shape, hole_text, is_long, bow_of, second_shape, second_text, sewn_text, thread_text, travel_shape, travel_text, long_hole_text, arrow_if, way_text};
 ghost use Rattle.std.specs.Prelude.{◌≡◌, ◌++◌, OnOk};
 
 use crate::strokes::{PieceStart, SewnStitch, Stroke};
 use design_model::{Bytes, Memory, Point, square_between};
 use picture_parts::{
-    Part, put, put_around, put_coloured_path, put_move, put_path_end, put_straight, thread_colour,
+    Part, again_colour, put, put_around, put_coloured_path, put_move, put_path_end, put_straight,
+    thread_colour,
 };
 
 /// The shortest stitch whose needle hole is shown, in tenths of a millimetre on its longer axis.
@@ -24,7 +25,7 @@ pub(crate) fn put_thread(text: &mut Bytes, stroke: Stroke) -> Result<(), Memory>
 }
 
 /// Appends a stitch: a straight line, or an arc where it was sewn before.
-fn put_sewn(text: &mut Bytes, stitch: SewnStitch) -> Result<(), Memory>
+pub(crate) fn put_sewn(text: &mut Bytes, stitch: SewnStitch) -> Result<(), Memory>
     ensures { OnOk result (text.new ≡ text.old ++ sewn_text stitch) }
 {
     if stitch.pass == 0 {
@@ -65,13 +66,23 @@ fn put_colour_change(text: &mut Bytes, thread: u8) -> Result<(), Memory>
     Ok(())
 }
 
-/// Appends a stitch that was sewn before.
+/// Appends a stitch that was sewn before; at a stop the colour changes.
 pub(crate) fn put_second(text: &mut Bytes, stroke: Stroke) -> Result<(), Memory>
     ensures { OnOk result (text.new ≡ text.old ++ second_text stroke) }
 {
-    if let Stroke::Sewn(stitch) = stroke {
-        return put_second_shape(text, stitch);
+    match stroke {
+        Stroke::Sewn(stitch) => put_second_shape(text, stitch),
+        Stroke::Stop { next, .. } => put_again_change(text, next),
+        Stroke::Begin(_) | Stroke::Float { .. } | Stroke::Trim { .. } => Ok(()),
     }
+}
+
+/// Ends what is sewn again of a block, and begins that of the next.
+fn put_again_change(text: &mut Bytes, thread: u8) -> Result<(), Memory>
+    ensures { OnOk result (text.new ≡ text.old ++ again_change_text thread) }
+{
+    put_path_end(text)?;
+    put_coloured_path(text, b"again", again_colour(thread))?;
     Ok(())
 }
 

@@ -18,6 +18,7 @@ use Rattle.picture_parts.specs.Colours.{colour_of_thread}
 use Rattle.picture_parts.specs.Marks.{mark_text, shape_at}
 use Rattle.picture_parts.specs.Parts.{around, filled}
 use Rattle.picture_parts.specs.Paths.{coloured_path, move_text, path_end, path_start, straight_text}
+use Rattle.picture_parts.specs.ThreadNames.{name_of_thread}
 use Rattle.picture_parts.specs.Sheets.{foot_text, head_text, style_text}
 
 -- The reason takes the room of five lines of the legend.
@@ -54,7 +55,7 @@ below = codes "<g transform='translate(0,0) translate(0,60)'>"
     ++ (10 ∷ codes "<text y='100'>thread 6.0 mm, travel 0.0 mm</text>" ++ (10 ∷ key_text
     ++ (codes "<g transform='translate(0,160)'>"
     ++ (10 ∷ codes "<g transform='translate(0,28)'><path stroke-width='14' d='M7,-7h26' stroke='#0e1f7c'/>"
-    ++ (codes "<text x='52'>thread 1</text><text x='170'>needles 3</text><text x='350'>length 6.0 mm</text></g>"
+    ++ (codes "<text x='52'>thread 1</text><text class='small' x='165'>Prussian Blue</text><text x='305'>needles 3</text><text x='480'>6.0 mm</text></g>"
     ++ (10 ∷ codes "</g>" ++ 10 ∷ [])))))))))
 
 -- The reason is 17 mm and a line of 2.8 mm below, and its last line has the steps.
@@ -70,6 +71,6 @@ reason = codes "<g transform='translate(0,198)'>"
 
 pub known_proof_picture : proof_of_design design (codes "BANDS") 9 ≡ top ++ (layers ++ (below ++ reason))
 unfolding arc_text around arrow_shape band_group below_start below_text block_start block_words caption coloured_path colour_of_thread
-    digits filled foot_text group_end head_text hole_shape length_of mark_text move_text over_text path_end path_layer path_start
-    piece_number proof_with reason_lines shape_at square_of straight_text threads_text title_text top_text whole_root
+    digits filled foot_text group_end head_text hole_shape length_of mark_text move_text name_of_thread over_text path_end path_layer
+    path_start piece_number proof_with reason_lines shape_at square_of straight_text threads_text title_text top_text whole_root
 known_proof_picture = refl

@@ -3,7 +3,7 @@ use Rattle.std.proofs.Common.{◌≡◌, ℕ, List, true, false, [], ◌∷◌, 
 use Rattle.program_texts.specs.MistakenWords.{MistakenWord, mistaken}
 use Rattle.format_traits.specs.Meanings.{Meaning}
 use Rattle.picture_commands.specs.Orders.{drawing, picture_mistake, picture_order, proving, showing, telling}
-use Rattle.picture_commands.specs.Names.{has_svg_ending, side_word}
+use Rattle.picture_commands.specs.Names.{has_svg_ending, is_hex_digit, side_word}
 use Rattle.picture_commands.specs.Words.{help, parsed_picture_words, picture, proof, version}
 
 -- A picture's name ends in `.svg`, in small letters.
@@ -13,8 +13,8 @@ pub known_pictures : (map has_svg_ending (codes "a.svg" ∷ codes "a.SVG" ∷ co
     × (map parsed_picture_words ((codes "a.pes" ∷ codes "b.svg" ∷ []) ∷
     (codes "a.pes" ∷ codes "b.svg" ∷ codes "1" ∷ codes "20" ∷ []) ∷ (codes "a" ∷ codes "b" ∷ codes "c.svg" ∷ [])
     ∷ (codes "--help" ∷ []) ∷ (codes "--version" ∷ []) ∷ [] ∷ [])
-    ≡ Ok (picture (record { input = codes "a.pes"; output = codes "b.svg"; hoop = None }))
-    ∷ Ok (picture (record { input = codes "a.pes"; output = codes "b.svg"; hoop = Some (record { width = 1; height = 20 }) }))
+    ≡ Ok (picture (record { input = codes "a.pes"; output = codes "b.svg"; hoop = None; cloth = None }))
+    ∷ Ok (picture (record { input = codes "a.pes"; output = codes "b.svg"; hoop = Some (record { width = 1; height = 20 }); cloth = None }))
     ∷ Ok (proof (record { drawing = codes "a"; cert = codes "b"; output = codes "c.svg" })) ∷ Ok help ∷ Ok version ∷ Err None ∷ [])
     -- A side is a number from 1 to 100000.
     × (map side_word (codes "1" ∷ codes "100000" ∷ codes "0" ∷ codes "100001" ∷ codes "-5" ∷ codes "x" ∷ codes "9999999999" ∷ [])
@@ -50,6 +50,26 @@ pub known_hoops : IsMistaken (codes "a.pes" ∷ codes "b.pes" ∷ codes "0" ∷ 
     × IsMistaken (codes "a.rw" ∷ codes "b.svg" ∷ codes "9" ∷ codes "9" ∷ []) (codes "a.rw") (codes "no format has this ending")
 known_hoops = ((refl, refl), (refl, refl), (refl, refl), (refl, refl), (refl, refl))
 
+-- A plain picture is on white or on the colour of six digits, and no proof; `plain` alone is no name of a picture.
+pub known_plain : (map parsed_picture_words ((codes "a.pes" ∷ codes "b.svg" ∷ codes "plain" ∷ [])
+    ∷ (codes "a.pes" ∷ codes "b.svg" ∷ codes "plain=09aFAf" ∷ []) ∷ (codes "a" ∷ codes "plain" ∷ codes "c.svg" ∷ []) ∷ [])
+    ≡ Ok (picture (record { input = codes "a.pes"; output = codes "b.svg"; hoop = None; cloth = Some (codes "ffffff") }))
+    ∷ Ok (picture (record { input = codes "a.pes"; output = codes "b.svg"; hoop = None; cloth = Some (codes "09aFAf") }))
+    ∷ Ok (proof (record { drawing = codes "a"; cert = codes "plain"; output = codes "c.svg" })) ∷ [])
+    × (map is_hex_digit (47 ∷ 48 ∷ 57 ∷ 58 ∷ 64 ∷ 65 ∷ 70 ∷ 71 ∷ 96 ∷ 97 ∷ 102 ∷ 103 ∷ [])
+    ≡ false ∷ true ∷ true ∷ false ∷ false ∷ true ∷ true ∷ false ∷ false ∷ true ∷ true ∷ false ∷ [])
+known_plain = (refl, refl)
+
+-- A colour has six digits, and no drawing is plain.
+pub known_colours : IsMistaken (codes "a.pes" ∷ codes "b.svg" ∷ codes "plain=fffff" ∷ []) (codes "plain=fffff")
+    (codes "needs six hexadecimal digits")
+    × IsMistaken (codes "a.pes" ∷ codes "b.svg" ∷ codes "plain=fffffff" ∷ []) (codes "plain=fffffff") (codes "needs six hexadecimal digits")
+    × IsMistaken (codes "a.pes" ∷ codes "b.svg" ∷ codes "plain=ffgfff" ∷ []) (codes "plain=ffgfff") (codes "needs six hexadecimal digits")
+    × IsMistaken (codes "a.pes" ∷ codes "b.pes" ∷ codes "plain=" ∷ []) (codes "b.pes") (codes "needs the ending .svg")
+    × IsMistaken (codes "a.pes" ∷ codes "b.svg" ∷ codes "plane" ∷ []) (codes "plane") (codes "needs the ending .svg")
+    × IsMistaken (codes "a.rw" ∷ codes "b.svg" ∷ codes "plain" ∷ []) (codes "a.rw") (codes "no format has this ending")
+known_colours = ((refl, refl), (refl, refl), (refl, refl), (refl, refl), (refl, refl), (refl, refl))
+
 -- a format with another ending
 abbrev ending_as : Meaning → List ℕ → Meaning
 ending_as format ending = record format { ending = ending }
@@ -58,7 +78,7 @@ ending_as format ending = record format { ending = ending }
 pub known_orders : (m : Meaning) → map (picture_order (ending_as m (codes "dst") ∷ ending_as m (codes "exp") ∷ []))
     ((codes "a.exp" ∷ codes "b.svg" ∷ []) ∷ (codes "a.rw" ∷ codes "b.svg" ∷ [])
     ∷ (codes "a" ∷ codes "b" ∷ codes "c.svg" ∷ []) ∷ [])
-    ≡ Some (showing (record { format = ending_as m (codes "exp"); input = codes "a.exp"; output = codes "b.svg"; hoop = None }))
+    ≡ Some (showing (record { format = ending_as m (codes "exp"); input = codes "a.exp"; output = codes "b.svg"; hoop = None; cloth = None }))
     ∷ Some (drawing (record { drawing = codes "a.rw"; output = codes "b.svg" }))
     ∷ Some (proving (record { drawing = codes "a"; cert = codes "b"; output = codes "c.svg" })) ∷ []
 known_orders m = refl

@@ -1,5 +1,5 @@
 -- The orders of stitch_picture, their plans, and the program.
-use Rattle.std.specs.Prelude.{◌≡◌, ℕ, List, [], ◌∷◌, Option, Some, None, Result, Ok, Err}
+use Rattle.std.specs.Prelude.{◌≡◌, ℕ, Bool, true, false, List, [], ◌∷◌, Option, Some, None, Result, Ok, Err, if◌then◌else◌}
 use Rattle.program_texts.specs.MistakenWords.{MistakenWord}
 use Rattle.program_texts.specs.CompanionUsage.{usage_with, version_line}
 use Rattle.design_picture.specs.declared.hoop.Hoop.{Hoop}
@@ -30,21 +30,28 @@ order_made file m = record {
   input = file.input;
   output = file.output;
   hoop = file.hoop;
+  cloth = file.cloth;
 }
+
+-- A hoop or a colour is for designs alone.
+abbrev pub is_for_design : Option Hoop → Option (List ℕ) → Bool
+is_for_design None None = false
+is_for_design None (Some cloth) = true
+is_for_design (Some hoop) cloth = true
 
 -- The order for the picture of a requested file that is a drawing.
 abbrev pub drawn_order : RequestedFile → DrawnOrder
 drawn_order file = record { drawing = file.input; output = file.output }
 
--- The order for a requested file of no format, with that hoop: a drawing has none.
-abbrev pub order_without_format : RequestedFile → Option Hoop → Option PictureOrder
-order_without_format file None = Some (drawing (drawn_order file))
-order_without_format file (Some hoop) = None
+-- The order for a requested file of no format: a drawing has no hoop and no plain picture.
+abbrev pub order_without_format : RequestedFile → Option PictureOrder
+order_without_format file =
+    if is_for_design file.hoop file.cloth then None else Some (drawing (drawn_order file))
 
 -- The order for the picture of a requested file: of a design, if its format is known, else of a
 -- drawing.
 abbrev pub order_with : RequestedFile → Option Meaning → Option PictureOrder
-order_with file None = order_without_format file file.hoop
+order_with file None = order_without_format file
 order_with file (Some m) = Some (showing (order_made file m))
 
 -- The order of a request, if there is one.
@@ -64,16 +71,16 @@ order_of_parsed formats (Err mistake) = None
 abbrev pub picture_order : List Meaning → List (List ℕ) → Option PictureOrder
 picture_order formats words = order_of_parsed formats (parsed_picture_words words)
 
--- The mistake of a file in a hoop, if its format isn't known: a drawing has no hoop.
-abbrev pub hoop_mistake : RequestedFile → Option Hoop → Option Meaning → Option MistakenWord
-hoop_mistake file (Some hoop) None = Some (mistake_at file.input misfit.NoFormat)
-hoop_mistake file (Some hoop) (Some m) = None
-hoop_mistake file None m = None
+-- The mistake of a file in a hoop or on a colour, if its format isn't known: a drawing has neither.
+abbrev pub design_mistake : RequestedFile → Option Meaning → Option MistakenWord
+design_mistake file None = if is_for_design file.hoop file.cloth
+    then Some (mistake_at file.input misfit.NoFormat) else None
+design_mistake file (Some m) = None
 
 -- The mistake of a request, if it has one.
 abbrev pub mistake_of_picture : List Meaning → RequestedPicture → Option MistakenWord
 mistake_of_picture formats (picture file) =
-    hoop_mistake file file.hoop (format_of formats file.input)
+    design_mistake file (format_of formats file.input)
 mistake_of_picture formats (proof order) = None
 mistake_of_picture formats help = None
 mistake_of_picture formats version = None

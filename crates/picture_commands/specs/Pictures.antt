@@ -1,7 +1,9 @@
 -- The picture of the design in a file of a format.
-use Rattle.std.specs.Prelude.{◌≡◌, ℕ, List, [], Option, Result, Ok, Err}
+use Rattle.std.specs.Prelude.{◌≡◌, ℕ, List, [], Option, Some, None, Result, Ok, Err}
+use Rattle.design_model.specs.Designs.{DesignValue}
 use Rattle.design_picture.specs.declared.hoop.Hoop.{Hoop}
 use Rattle.design_picture.specs.Pictures.{picture_of}
+use Rattle.design_picture.specs.PlainPictures.{plain_picture_of}
 use Rattle.format_traits.specs.declared.fault.ReadFault.{ReadFault}
 use Rattle.format_traits.specs.declared.loaded.Loaded.{Loaded}
 use Rattle.format_traits.specs.Meanings.{Meaning}
@@ -15,11 +17,17 @@ pub record DesignPictureOrder : Type 0 where
   pub input : List ℕ
   pub output : List ℕ
   pub hoop : Option Hoop
+  pub cloth : Option (List ℕ)
+
+-- The picture of a design, with its marks and the hoop if there is one, or plain on a colour.
+abbrev pub picture_on : Option (List ℕ) → Option Hoop → DesignValue → List ℕ
+picture_on None hoop d = picture_of d hoop
+picture_on (Some digits) hoop d = plain_picture_of d digits
 
 -- The plan for the result of reading the design: its picture is written, and a fault is refused.
 abbrev pub picture_read : DesignPictureOrder → Result Loaded ReadFault → Plan
 picture_read order (Ok loaded) = accepts (λ product. product
-    ≡ one_file_product order.output (picture_of loaded.design order.hoop) [])
+    ≡ one_file_product order.output (picture_on order.cloth order.hoop loaded.design) [])
 picture_read order (Err fault) = refuses (read_fault_text order.input fault)
 
 -- The plan of an order: the design is read, then its picture is written.

@@ -1,23 +1,26 @@
--- What the arguments of stitch_picture request: the picture of a file, with the two sides of a hoop
--- or none, the picture of a proof, the usage text or the version; or the first argument that isn't
+-- What the arguments of stitch_picture request: the picture of a file, with the two sides of a hoop,
+-- a colour or neither, the picture of a proof, the usage text or the version; or the first argument that isn't
 -- understood.
-use Rattle.std.specs.Prelude.{ℕ, List, [], ◌∷◌, Option, Some, None, Result, Ok, Err, bytes_eq, codes, if◌then◌else◌}
+use Rattle.std.specs.Prelude.{ℕ, List, [], ◌∷◌, Option, Some, None, Result, Ok, Err, bytes_eq, codes, option_map, if◌then◌else◌}
 use Rattle.program_texts.specs.MistakenWords.{MistakenWord, then_with, with_some_mistake}
 use Rattle.design_picture.specs.declared.hoop.Hoop.{Hoop}
 use Rattle.outside_io.specs.Files.{IsFileName}
 use Rattle.picture_commands.specs.declared.mistake.Misfit.TheVariants as misfit
+use Rattle.picture_commands.specs.declared.words.Cloth.{Cloth}
 use Rattle.picture_commands.specs.declared.words.FileNames.{FileNames}
 use Rattle.picture_commands.specs.declared.words.PictureRequest.{PictureRequest}
 use Rattle.picture_commands.specs.declared.words.PictureRequest.TheVariants as request
 use Rattle.picture_commands.specs.declared.words.ProofNames.{ProofNames}
 use Rattle.picture_commands.specs.Mistakes.{mistake_at}
-use Rattle.picture_commands.specs.Names.{name_or_mistake, picture_or_mistake, side_if, side_word, unless_input}
+use Rattle.picture_commands.specs.Names.{cloth_if, name_or_mistake, picture_or_mistake, plain_digits, side_if, side_word, unless_input}
 
--- A file whose picture is requested: its name, the name of the picture, and the hoop or none.
+-- A file whose picture is requested: its name, the name of the picture, and the hoop or none, or the
+-- colour of a plain picture.
 pub record RequestedFile : Type 0 where
   pub input : List ℕ
   pub output : List ℕ
   pub hoop : Option Hoop
+  pub cloth : Option (List ℕ)
 
 -- A proof that is requested: the names of the drawing, of its certificate and of the picture.
 pub record ProofOrder : Type 0 where
@@ -32,12 +35,17 @@ pub data RequestedPicture : Type 0 where
   help : RequestedPicture
   version : RequestedPicture
 
+-- The digits of a colour, as bytes.
+abbrev pub cloth_digits : Cloth → List ℕ
+cloth_digits cloth = cloth.digits.now
+
 -- The names for the picture of a file, as bytes.
 abbrev pub requested_file : FileNames → RequestedFile
 requested_file names = record {
   input = names.input.now;
   output = names.output.now;
   hoop = names.hoop;
+  cloth = option_map cloth_digits names.cloth;
 }
 
 -- The names for the picture of a proof, as bytes.
@@ -77,7 +85,7 @@ AreGoodNames request.Version = Unit {0}
 abbrev pub file_of_names : (input output : List ℕ) → Result RequestedFile MistakenWord
 file_of_names input output = then_with (name_or_mistake input) (λ source.
     then_with (picture_or_mistake output) (λ picture. then_with (unless_input source picture)
-    (λ target. Ok (record { input = source; output = target; hoop = None }))))
+    (λ target. Ok (record { input = source; output = target; hoop = None; cloth = None }))))
 
 -- The request of two names.
 abbrev pub parsed_file : (input output : List ℕ) → Result RequestedPicture MistakenWord
@@ -98,6 +106,22 @@ parsed_in_hoop input output width height = then_with (file_of_names input output
     then_with (side_if width (side_word width)) (λ w. then_with (side_if height (side_word height))
     (λ h. Ok (picture (record file { hoop = Some (record { width = w; height = h }) })))))
 
+-- The request of two names with a colour.
+abbrev pub parsed_plain : (input output word digits : List ℕ)
+    → Result RequestedPicture MistakenWord
+parsed_plain input output word digits = then_with (file_of_names input output) (λ file.
+    then_with (cloth_if word digits) (λ cloth. Ok (picture (record file { cloth = Some cloth }))))
+
+-- The request of three arguments, of which the third may stand for the digits of a colour.
+abbrev pub parsed_by_third : (first second third : List ℕ) → Option (List ℕ)
+    → Result RequestedPicture MistakenWord
+parsed_by_third first second third (Some digits) = parsed_plain first second third digits
+parsed_by_third first second third None = parsed_proof first second third
+
+-- The request of three arguments.
+abbrev pub parsed_three : (first second third : List ℕ) → Result RequestedPicture MistakenWord
+parsed_three first second third = parsed_by_third first second third (plain_digits third)
+
 -- The request of one argument.
 abbrev pub parsed_alone : List ℕ → Result RequestedPicture MistakenWord
 parsed_alone word =
@@ -109,7 +133,7 @@ parsed_alone word =
 abbrev pub parsed_words : List ℕ → List (List ℕ) → Result RequestedPicture MistakenWord
 parsed_words word [] = parsed_alone word
 parsed_words input (output ∷ []) = parsed_file input output
-parsed_words drawing (cert ∷ output ∷ []) = parsed_proof drawing cert output
+parsed_words first (second ∷ third ∷ []) = parsed_three first second third
 parsed_words input (output ∷ width ∷ height ∷ []) = parsed_in_hoop input output width height
 parsed_words input (output ∷ width ∷ height ∷ more ∷ rest) =
     Err (mistake_at more misfit.NotUnderstood)

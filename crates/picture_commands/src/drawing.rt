@@ -1,13 +1,13 @@
 ghost use Rattle.format_traits.specs.Meanings.{Meaning};
 ghost use Rattle.picture_commands.specs.Orders.{order_made};
-ghost use Rattle.picture_commands.specs.Pictures.{design_picture_plan, picture_read};
-ghost use Rattle.picture_commands.specs.Words.{ArePictureNames, requested_file};
+ghost use Rattle.picture_commands.specs.Pictures.{design_picture_plan, picture_on, picture_read};
+ghost use Rattle.picture_commands.specs.Words.{ArePictureNames, cloth_digits, requested_file};
 ghost use Rattle.program_shell.specs.StepOutcomes.{RunsPlan, RunsPurePlan};
-ghost use Rattle.std.specs.Prelude.{◌≡◌, ◌<◌, Ok, Some, length, map, slice_get};
+ghost use Rattle.std.specs.Prelude.{◌≡◌, ◌<◌, IfOk, Ok, Some, length, map, option_map, slice_get};
 
 use crate::words::FileNames;
-use design_model::Bytes;
-use design_picture::picture;
+use design_model::{Bytes, Design, Memory};
+use design_picture::{picture, plain_picture};
 use format_traits::{Format, Loaded};
 use outside_io::Store;
 use program_inputs::{format_at, load_at};
@@ -43,7 +43,18 @@ fn drawn<'a>(
     ensures { RunsPurePlan (picture_read (order_made (requested_file names.entry) (meaning format.now))
         (Ok loaded.now)) result }
 {
-    let text = picture(alloc, &loaded.design, names.hoop)?;
+    let text = picture_of_design(alloc, names, &loaded.design)?;
     let product = one_output(alloc, names.output, text, Bytes::new(alloc))?;
     Ok(product)
+}
+
+/// Returns the picture of a design, with its marks, or plain on a colour.
+fn picture_of_design(alloc: Global, names: FileNames<'_>, design: &Design) -> Result<Bytes, Memory>
+    ensures { IfOk result (λ text. text
+        ≡ picture_on (option_map cloth_digits names.entry.cloth) names.entry.hoop design.now) }
+{
+    match names.cloth {
+        Some(cloth) => plain_picture(alloc, design, cloth.digits),
+        None => picture(alloc, design, names.hoop),
+    }
 }

@@ -13,10 +13,12 @@ pub enum Misfit {
     NotAPicture,
     /// The picture has the name of an input.
     IsInput,
-    /// No format has the ending of the file's name, and a drawing has no hoop.
+    /// No format has the ending of the file's name, and a drawing has no hoop and no plain picture.
     NoFormat,
     /// The side of a hoop is no number, or out of its range.
     SideRange,
+    /// The colour of a plain picture is none.
+    NoColour,
     /// The program takes no such argument.
     NotUnderstood,
 }
@@ -34,6 +36,7 @@ impl Misfit {
             Misfit::IsInput => b"is an input",
             Misfit::NoFormat => b"no format has this ending",
             Misfit::SideRange => b"from 1 to 100000",
+            Misfit::NoColour => b"needs six hexadecimal digits",
             Misfit::NotUnderstood => b"not understood",
         }
     }

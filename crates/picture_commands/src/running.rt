@@ -1,8 +1,8 @@
 ghost use Rattle.program_texts.specs.MistakenWords.{MistakenWord};
 ghost use Rattle.format_traits.specs.Endings.{format_of};
 ghost use Rattle.picture_commands.specs.Mistakes.{mistaken_word};
-ghost use Rattle.picture_commands.specs.Orders.{mistake_of_picture, order_of_picture, order_with, order_without_format, picture_mistake, picture_order, picture_program_after};
-ghost use Rattle.picture_commands.specs.Words.{AreGoodNames, ArePictureNames, picture, picture_request, requested_file};
+ghost use Rattle.picture_commands.specs.Orders.{is_for_design as is_hoop_or_cloth, mistake_of_picture, order_of_picture, order_with, order_without_format, picture_mistake, picture_order, picture_program_after};
+ghost use Rattle.picture_commands.specs.Words.{AreGoodNames, ArePictureNames, cloth_digits, picture, picture_request, requested_file};
 ghost use Rattle.program_shell.specs.ProgramRuns.{RunEnds};
 ghost use Rattle.program_shell.specs.RunViews.{views_of};
 ghost use Rattle.program_shell.specs.StepOutcomes.{RunsRequest};
@@ -105,16 +105,26 @@ fn make_picture<'a, S: Store>(
     }
 }
 
-/// Makes the picture of a drawing, which has no hoop.
+/// Makes the picture of a drawing, which has no hoop and is never plain.
 fn make_drawing<'a, S: Store>(alloc: Global, names: FileNames<'a>, store: &mut S) -> Made<'a>
     requires { ArePictureNames names }
     ensures { (mistake : OptionValue MistakenWord) → RunsRequest (picture_program_after mistake)
-        (order_without_format (requested_file names.entry) names.entry.hoop)
+        (order_without_format (requested_file names.entry))
         (S.view store.old) (S.view store.new) result }
 {
-    match names.hoop {
-        None => draw_lines(alloc, names, store),
-        Some(_) => Err(Failure::BadArguments),
+    if is_for_design(names) {
+        return Err(Failure::BadArguments);
+    }
+    draw_lines(alloc, names, store)
+}
+
+/// Returns whether a hoop or a colour is requested, which are for designs alone.
+fn is_for_design(names: FileNames<'_>) -> bool
+    ensures { result ≡ is_hoop_or_cloth names.entry.hoop (option_map cloth_digits names.entry.cloth) }
+{
+    match (names.hoop, names.cloth) {
+        (None, None) => false,
+        (None, Some(_)) | (Some(_), _) => true,
     }
 }
 
@@ -129,7 +139,7 @@ fn mistake_in<'a>(words: &'a [String], formats: &[Box<dyn Format>]) -> Option<Mi
     }
 }
 
-/// Returns a file in a hoop whose format isn't known, if the request has one.
+/// Returns a file in a hoop or on a colour whose format isn't known, if the request has one.
 fn unknown_format<'a>(
     requested: PictureRequest<'a>,
     formats: &[Box<dyn Format>],
@@ -147,7 +157,7 @@ fn unknown_file<'a>(names: FileNames<'a>, formats: &[Box<dyn Format>]) -> Option
     ensures { option_map mistaken_word result
         ≡ mistake_of_picture (map (λ f. meaning f) formats.now) (picture (requested_file names.entry)) }
 {
-    if names.hoop.is_some() && find(formats, names.input).is_none() {
+    if is_for_design(names) && find(formats, names.input).is_none() {
         Some(Mistake {
             word: names.input,
             why: Misfit::NoFormat,

@@ -1,23 +1,32 @@
 ghost use Rattle.outside_io.specs.Files.{IsFileName};
 ghost use Rattle.picture_commands.specs.Mistakes.{mistaken_word};
-ghost use Rattle.picture_commands.specs.Names.{has_svg_ending, name_or_mistake, picture_or_mistake, side_if, side_word, unless_input};
-ghost use Rattle.picture_commands.specs.Words.{AreGoodNames, ArePictureNames, file_of_names, parsed_alone, parsed_file, parsed_in_hoop, parsed_picture_words, parsed_proof, parsed_words, picture_request, requested_file};
+ghost use Rattle.picture_commands.specs.Names.{cloth_if, has_svg_ending, is_hex_digit, name_or_mistake, picture_or_mistake, plain_digits, side_if, side_word, unless_input};
+ghost use Rattle.picture_commands.specs.Words.{AreGoodNames, ArePictureNames, cloth_digits, file_of_names, parsed_alone, parsed_file, parsed_in_hoop, parsed_picture_words, parsed_plain, parsed_proof, parsed_three, parsed_words, picture_request, requested_file};
+ghost use Rattle.std.specs.List.{list_all};
 ghost use Rattle.std.specs.Prelude.{◌≡◌, Err, IfErr, IfOk, None, Ok, map, option_map, string_bytes};
 
 use crate::mistake::{Misfit, Mistake};
 use command_words::parse_natural;
 use design_picture::Hoop;
 use outside_io::is_name;
+use text_parts::split_first;
 
 /// The greatest side of a hoop, in tenths of a millimetre.
 pub const MAX_HOOP_SIDE: u32 = 100_000;
 
-/// The names for the picture of a file, and the hoop or none.
+/// The colour of a plain picture, as six hexadecimal digits.
+#[derive(Clone, Copy)]
+pub struct Cloth<'a> {
+    pub digits: &'a [u8],
+}
+
+/// The names for the picture of a file, with the hoop or none, or the colour of a plain picture.
 #[derive(Clone, Copy)]
 pub struct FileNames<'a> {
     pub input: &'a str,
     pub output: &'a str,
     pub hoop: Option<Hoop>,
+    pub cloth: Option<Cloth<'a>>,
 }
 
 /// The names for the picture of a drawing and its certificate.
@@ -41,7 +50,7 @@ pub enum PictureRequest<'a> {
     Version,
 }
 
-/// Parses the arguments: two file names, and the two sides of a hoop or none; three file names; or `--help` or `--version`
+/// Parses the arguments: two file names, with the two sides of a hoop, `plain` or nothing; three file names; or `--help` or `--version`
 /// alone. The error is the first that isn't understood, and `None` without arguments. Allocates nothing.
 pub fn request(words: &[String]) -> Result<PictureRequest<'_>, Option<Mistake<'_>>>
     ensures ok { IfOk result (λ requested.
@@ -69,7 +78,7 @@ fn request_after<'a>(word: &'a str, words: &'a [String]) -> Result<PictureReques
     match words {
         [] => request_alone(word),
         [output] => file_request(word, output.as_str()),
-        [cert, output] => proof_request(word, cert.as_str(), output.as_str()),
+        [second, third] => request_of_three(word, second.as_str(), third.as_str()),
         [output, width, height] => {
             hoop_request(word, output.as_str(), width.as_str(), height.as_str())
         }
@@ -105,6 +114,105 @@ fn file_request<'a>(input: &'a str, output: &'a str) -> Result<PictureRequest<'a
     Ok(PictureRequest::File(names))
 }
 
+fn request_of_three<'a>(
+    first: &'a str,
+    second: &'a str,
+    third: &'a str,
+) -> Result<PictureRequest<'a>, Mistake<'a>>
+    ensures ok { IfOk result (λ requested. parsed_three first.now second.now third.now
+        ≡ Ok (picture_request requested)) }
+    ensures err { IfErr result (λ mistake. parsed_three first.now second.now third.now
+        ≡ Err (mistaken_word mistake)) }
+    ensures names { IfOk result AreGoodNames }
+{
+    match digits_in(third.as_bytes()) {
+        Some(digits) => plain_request(first, second, third, digits),
+        None => proof_request(first, second, third),
+    }
+}
+
+/// Returns the digits that `plain` or `plain=RRGGBB` stands for, which may be wrong, or none for another argument.
+fn digits_in(word: &[u8]) -> Option<&[u8]>
+    ensures { option_map (λ digits. digits.now) result ≡ plain_digits word.now }
+{
+    match split_first(word, b'=') {
+        Some((name, value)) => {
+            if name == b"plain".as_slice() {
+                Some(value)
+            } else {
+                None
+            }
+        }
+        None => {
+            if word == b"plain".as_slice() {
+                Some(b"ffffff")
+            } else {
+                None
+            }
+        }
+    }
+}
+
+fn plain_request<'a>(
+    input: &'a str,
+    output: &'a str,
+    word: &'a str,
+    digits: &'a [u8],
+) -> Result<PictureRequest<'a>, Mistake<'a>>
+    ensures ok { IfOk result (λ requested. parsed_plain input.now output.now word.now digits.now
+        ≡ Ok (picture_request requested)) }
+    ensures err { IfErr result (λ mistake. parsed_plain input.now output.now word.now digits.now
+        ≡ Err (mistaken_word mistake)) }
+    ensures names { IfOk result AreGoodNames }
+{
+    let FileNames {
+        input,
+        output,
+        hoop,
+        cloth: _,
+    } = file_names(input, output)?;
+    let cloth = Some(cloth_in(word, digits)?);
+    Ok(PictureRequest::File(FileNames {
+        input,
+        output,
+        hoop,
+        cloth,
+    }))
+}
+
+/// Returns the colour of six hexadecimal digits, in capitals or not.
+fn cloth_in<'a>(word: &'a str, digits: &'a [u8]) -> Result<Cloth<'a>, Mistake<'a>>
+    ensures ok { IfOk result (λ cloth. cloth_if word.now digits.now ≡ Ok (cloth_digits cloth)) }
+    ensures err { IfErr result (λ mistake. cloth_if word.now digits.now ≡ Err (mistaken_word mistake)) }
+{
+    if digits.len() == 6 && are_hex(digits) {
+        Ok(Cloth { digits })
+    } else {
+        Err(Mistake {
+            word,
+            why: Misfit::NoColour,
+        })
+    }
+}
+
+fn are_hex(digits: &[u8]) -> bool
+    ensures { result ≡ list_all is_hex_digit digits.now }
+{
+    for digit in digits {
+        if !is_hex(*digit) {
+            return false;
+        }
+    }
+    true
+}
+
+fn is_hex(digit: u8) -> bool
+    ensures { result ≡ is_hex_digit digit }
+{
+    (digit >= b'0' && digit <= b'9')
+        || ((digit >= b'A' && digit <= b'F') || (digit >= b'a' && digit <= b'f'))
+}
+
 fn hoop_request<'a>(
     input: &'a str,
     output: &'a str,
@@ -121,6 +229,7 @@ fn hoop_request<'a>(
         input,
         output,
         hoop: _,
+        cloth,
     } = file_names(input, output)?;
     let width = side_in(width)?;
     let height = side_in(height)?;
@@ -129,6 +238,7 @@ fn hoop_request<'a>(
         input,
         output,
         hoop,
+        cloth,
     }))
 }
 
@@ -155,7 +265,7 @@ fn proof_request<'a>(
     }))
 }
 
-/// Returns the names of a file and of its picture, without a hoop.
+/// Returns the names of a file and of its picture, without a hoop or a colour.
 fn file_names<'a>(input: &'a str, output: &'a str) -> Result<FileNames<'a>, Mistake<'a>>
     ensures ok { IfOk result (λ names. file_of_names input.now output.now ≡ Ok (requested_file names)) }
     ensures err { IfErr result (λ mistake. file_of_names input.now output.now ≡ Err (mistaken_word mistake)) }
@@ -168,6 +278,7 @@ fn file_names<'a>(input: &'a str, output: &'a str) -> Result<FileNames<'a>, Mist
         input,
         output,
         hoop: None,
+        cloth: None,
     })
 }
 

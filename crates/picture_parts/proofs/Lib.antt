@@ -1,4 +1,6 @@
 mod TemplateLemmas
 mod PartFacts
 mod ColourFacts
+mod AgainFacts
+mod ThreadNameFacts
 mod MarkFacts

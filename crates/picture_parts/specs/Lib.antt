@@ -3,4 +3,7 @@ pub mod Parts
 pub mod Paths
 pub mod Marks
 pub mod Colours
+pub mod AgainColours
+pub mod ThreadNames
 pub mod Sheets
+pub mod PlainSheets

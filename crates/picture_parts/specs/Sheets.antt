@@ -13,6 +13,8 @@ style_text =
     ++ (codes "troke-width:5;stroke-linejoin:round}"
     ++ (10 ∷ codes "path{stroke-linecap:round;stroke-linejoin:round}.thread{fill:none;"
     ++ (codes "stroke-width:3}.second{fill:none;stroke-width:3;stroke:#1d3bd1}"
+    ++ (10 ∷ codes ".again{fill:none;stroke-width:3;stroke-dasharray:6 5;stroke-linecap:butt}"
+    ++ (codes ".outside{fill:none;stroke:#d00;stroke-width:8;opacity:.6}"
     ++ (10 ∷ codes ".hole{fill:none;stroke:#222;stroke-width:2.6}.line{fill:none;stroke:#555;strok"
     ++ (codes "e-width:1.5}"
     ++ (10 ∷ codes ".travel{fill:none;stroke:#555;stroke-width:1.5;stroke-dasharray:6 5;marker-end"
@@ -29,7 +31,7 @@ style_text =
     ++ (10 ∷ codes "<marker id='way' markerUnits='userSpaceOnUse' markerWidth='16' markerHeight='1"
     ++ (codes "6' refX='19' refY='8' orient='auto'>"
     ++ (codes "<path d='M4,3L13,8L4,13' fill='none' stroke='#555' stroke-width='1.5'/></marke"
-    ++ (ended (codes "r></defs>")))))))))))))))))))))
+    ++ (ended (codes "r></defs>")))))))))))))))))))))))
 
 -- The text before the title of a picture: its size in millimetres, the rectangle that it shows, the
 -- sheet in the colour of unbleached cloth, styles and arrows.

@@ -1,17 +1,23 @@
-//! What pictures are made of: SVG texts in parts, paths and marks, the colours of threads, and the sheet that
-//! a picture is drawn on.
+//! What pictures are made of: SVG texts in parts, paths and marks, the colours and names of threads, and the
+//! sheet that a picture is drawn on.
 #![tactic(auto)]
 
+mod again_colours;
 mod colours;
 mod escapes;
 mod marks;
 mod parts;
 mod paths;
+mod plain_sheet;
 mod sheet;
+mod thread_names;
 
+pub use again_colours::again_colour;
 pub use colours::thread_colour;
 pub use escapes::put_escaped;
 pub use marks::{Mark, put_mark};
 pub use parts::{Part, put, put_around};
 pub use paths::{put_coloured_path, put_move, put_path_end, put_path_start, put_straight};
+pub use plain_sheet::{put_plain_foot, put_plain_head, put_plain_title};
 pub use sheet::{Sheet, put_foot, put_head};
+pub use thread_names::thread_name;

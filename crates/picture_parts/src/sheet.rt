@@ -8,6 +8,7 @@ use design_model::{Bytes, Memory, Point};
 const STYLE: &[u8] =
     b"<style>text{font:22px sans-serif;fill:#222;paint-order:stroke;stroke:#d9d1be;stroke-width:5;stroke-linejoin:round}\n\
 path{stroke-linecap:round;stroke-linejoin:round}.thread{fill:none;stroke-width:3}.second{fill:none;stroke-width:3;stroke:#1d3bd1}\n\
+.again{fill:none;stroke-width:3;stroke-dasharray:6 5;stroke-linecap:butt}.outside{fill:none;stroke:#d00;stroke-width:8;opacity:.6}\n\
 .hole{fill:none;stroke:#222;stroke-width:2.6}.line{fill:none;stroke:#555;stroke-width:1.5}\n\
 .travel{fill:none;stroke:#555;stroke-width:1.5;stroke-dasharray:6 5;marker-end:url(#way)}.arrow{fill:none;stroke:none;marker-end:url(#dart)}\n\
 .start{fill:#1a7f37;stroke:#fff;stroke-width:1.5}.end{fill:#b3261e;stroke:#fff;stroke-width:1.5}.trim{fill:none;stroke:#222;stroke-width:2}.stop{fill:#fff;stroke:#222;stroke-width:2}\n\

@@ -27,14 +27,26 @@ const LOOSE: &[u8] =
     b"redwork 3\nname loose\nstep 10\ncolor 5\nline 0 0 20 0\nline 20 0 40 0 40 10\ncolor 1\nline 0 20 18 20\nline 20 15 20 30\n";
 
 const TEXT_OF_USAGE: &str =
-    "usage: stitch_picture FILE OUT.svg [WIDTH HEIGHT]\n       stitch_picture DRAWING OUT.svg\n       stitch_picture DRAWING CERT OUT.svg\n       stitch_picture --help\n       stitch_picture --version\n";
+    "usage: stitch_picture FILE OUT.svg [WIDTH HEIGHT]\n       stitch_picture FILE OUT.svg plain[=RRGGBB]\n       stitch_picture DRAWING OUT.svg\n       stitch_picture DRAWING CERT OUT.svg\n       stitch_picture --help\n       stitch_picture --version\n";
 
 /// Arguments, the status of their run, and what it prints on the standard error, where the usage text follows status 2.
 type PictureCase = (&'static [&'static str], u8, &'static str);
 
-const CASES: [PictureCase; 21] = [
+const CASES: [PictureCase; 25] = [
     (&["a.lst", "a.svg"], 0, ""),
     (&["a.lst", "a.svg", "700", "300"], 0, ""),
+    (&["a.lst", "a.svg", "plain"], 0, ""),
+    (&["a.lst", "a.svg", "plain=00fF99"], 0, ""),
+    (
+        &["a.lst", "a.svg", "plain=red"],
+        2,
+        "stitch_picture: plain=red: needs six hexadecimal digits\n",
+    ),
+    (
+        &["a.rw", "a.svg", "plain"],
+        2,
+        "stitch_picture: a.rw: no format has this ending\n",
+    ),
     (&[], 2, ""),
     (
         &["a.lst"],
@@ -119,16 +131,32 @@ const CASES: [PictureCase; 21] = [
 /// Arguments, and parts of the picture that they make.
 type DrawnCase = (&'static [&'static str], &'static [&'static [u8]]);
 
-/// What is sewn again is drawn beside the first; a proof shows what is sewn again and its cuts; a drawing shows its
+/// What is sewn again is drawn beside the first and in dashes; in a hoop that is too small stitches outside are drawn once
+/// more, and the key says so; a plain picture has the thread alone; a proof shows what is sewn again and its cuts; a drawing shows its
 /// lines, the junctions of its first piece, its loose end, and the counts.
-const PICTURES: [DrawnCase; 3] = [
+const PICTURES: [DrawnCase; 5] = [
     (
         &["a.lst", "a.svg"],
         &[
             b"<path class='thread' stroke='#ed171f' d='\nM0,0L30,0L60,0A30,30,0,0,1,30,0A30,30,0,0,1,0,0'/>\n",
+            b"<path class='again' stroke='#1d3bd1' d='\nM60,0A30,30,0,0,1,30,0\nM30,0A30,30,0,0,1,0,0'/>\n<path class='hole'",
             b"<path class='hole' d='M0,0h0M30,0h0M60,0h0M30,0h0M0,0h0'/>\n",
             b"needles 5, pieces 1, trims 1, stops 0</text>\n",
-            b"thread 5</text><text x='170'>needles 5</text><text x='350'>length 12.0 mm</text></g>\n",
+            b"thread 5</text><text class='small' x='165'>Red</text><text x='305'>needles 5</text><text x='480'>12.0 mm</text></g>\n",
+        ],
+    ),
+    (
+        &["a.lst", "a.svg", "50", "20"],
+        &[
+            b"<path class='outside' d='\nM0,0L30,0\nM30,0L60,0\nM60,0A30,30,0,0,1,30,0\nM30,0A30,30,0,0,1,0,0'/>\n",
+            b"hoop 5.0 x 2.0 mm: too large by 1.0 x 0.0 mm</text>",
+        ],
+    ),
+    (
+        &["a.lst", "a.svg", "plain=00fF99"],
+        &[
+            b"<path fill='#00fF99' d='M0,0h180v120h-180z'/>\n<style>",
+            b"<g transform='translate(60,60)'>\n<path class='thread' stroke='#ed171f' d='\nM0,0L30,0L60,0A30,30,0,0,1,30,0A30,30,0,0,1,0,0'/>\n</g>\n</svg>\n",
         ],
     ),
     (

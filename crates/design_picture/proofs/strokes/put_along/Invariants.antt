@@ -1,7 +1,5 @@
-use Rattle.std.proofs.Common.{◌≡◌, ◌++◌, None, drop}
-use Rattle.std.specs.HashMap.{get}
-use Rattle.design_picture.proofs.Names.{acts_after, acts_along, HasCounted, first_pen, pen_along, strokes_from}
-use Rattle.design_picture.specs.Passes.{is_same_stitch}
+use Rattle.std.proofs.Common.{◌≡◌, ◌++◌, drop}
+use Rattle.design_picture.proofs.Names.{acts_after, acts_along, HasCounted, first_pen, nothing_sewn, pen_along, sewn_by, strokes_from}
 use Rattle.design_picture.proofs.strokes.put_along.Given as goal
 
 -- the strokes so far and those of the acts that are left are all of them, and so is the last pen
@@ -9,7 +7,7 @@ abbrev pub invariant-loop-command : goal.invariant-loop-command
 invariant-loop-command l = record {
   number : l.scanner.number ≡ l.command-index;
   counted : HasCounted l.command-index l.pen;
-  shown : l.strokes ++ strokes_from l.design l.pen (get is_same_stitch l.passes) (acts_after l.scanner (drop l.command-index l.commands))
-      ≡ l.fn.strokes ++ strokes_from l.fn.design first_pen (λ stitch. None) (acts_along l.fn.commands);
+  shown : l.strokes ++ strokes_from l.design l.pen (sewn_by l.sewn) (acts_after l.scanner (drop l.command-index l.commands))
+      ≡ l.fn.strokes ++ strokes_from l.fn.design first_pen nothing_sewn (acts_along l.fn.commands);
   pen : pen_along l.pen (acts_after l.scanner (drop l.command-index l.commands)) ≡ pen_along first_pen (acts_along l.fn.commands);
 }

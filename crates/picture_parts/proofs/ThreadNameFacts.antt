@@ -1,7 +1,7 @@
 -- The 64 names of the palette, as pyembroidery lists them in `EmbThreadPec.py`.
 use Rattle.std.proofs.Common.{◌≡◌, ℕ, List, [], ◌∷◌, codes, map, refl}
 use Rattle.std.specs.List.{range_with_len}
-use Rattle.design_commands.specs.ThreadNames.{name_of_thread}
+use Rattle.picture_parts.specs.ThreadNames.{name_of_thread}
 
 -- The threads 1 to 64, four a line.
 pub known_names : map name_of_thread (range_with_len 1 64) ≡

@@ -1,4 +1,4 @@
-ghost use Rattle.design_commands.specs.ThreadNames.{name_of_thread};
+ghost use Rattle.picture_parts.specs.ThreadNames.{name_of_thread};
 ghost use Rattle.std.specs.Prelude.{◌≡◌};
 
 /// The names of the threads 1 to 64 of the PEC format, fifteen characters each, with spaces at their ends.

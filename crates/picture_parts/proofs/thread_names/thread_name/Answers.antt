@@ -1,7 +1,7 @@
 use Rattle.std.proofs.Common.{◌∙◌, refl}
 use Rattle.std.proofs.lemmas.Str.Ascii.{trim_ascii_end_is}
-use Rattle.design_commands.specs.ThreadNames.{name_of_thread}
-use Rattle.design_commands.proofs.thread_names.thread_name.Goals as goal
+use Rattle.picture_parts.specs.ThreadNames.{name_of_thread}
+use Rattle.picture_parts.proofs.thread_names.thread_name.Goals as goal
 
 pub returns : goal.returns
 unfolding name_of_thread
