@@ -9,6 +9,7 @@ use Rattle.picture_parts.specs.Colours.{colour_of_thread}
 use Rattle.picture_parts.specs.Marks.{mark_text, shape_at}
 use Rattle.picture_parts.specs.Parts.{around, filled}
 use Rattle.picture_parts.specs.Paths.{coloured_path, move_text, path_end, straight_text}
+use Rattle.picture_parts.specs.ThreadNames.{name_of_thread}
 use Rattle.drawing_picture.proofs.BandFacts.{at, point}
 
 -- Two lines in blocks of the threads 5 and 20: each is a path through its points, in its colour.
@@ -60,6 +61,6 @@ unfolding filled digits counts_text
 known_counts = refl
 
 pub known_threads : thread_lines 1 (5 ∷ []) ≡ codes "<g transform='translate(0,28)'><path stroke-width='14' d='M7,-7h26' stroke='#ed171f'/>"
-    ++ (codes "<text x='52'>thread 5</text></g>" ++ 10 ∷ [])
-unfolding filled digits block_start thread_end colour_of_thread
+    ++ (codes "<text x='52'>thread 5</text><text class='small' x='165'>Red</text></g>" ++ 10 ∷ [])
+unfolding filled digits block_start thread_end colour_of_thread name_of_thread
 known_threads = refl

@@ -16,6 +16,7 @@ use Rattle.picture_parts.specs.Marks.{mark_text, shape_at}
 use Rattle.picture_parts.specs.Parts.{around, filled}
 use Rattle.picture_parts.specs.Paths.{coloured_path, move_text, path_end, straight_text}
 use Rattle.picture_parts.specs.Sheets.{foot_text, head_text, style_text}
+use Rattle.picture_parts.specs.ThreadNames.{name_of_thread}
 
 abbrev at : ℕ → ℕ → Point
 at x y = record { x = pos x; y = pos y }
@@ -165,10 +166,10 @@ key = codes "<path class='start' d='M2,112l18,9l-18,9z'/><text class='small' x='
 -- The threads of the two blocks, and the ends of the four groups.
 abbrev legend : List ℕ
 legend = codes "<g transform='translate(0,248)'>"
-    ++ (10 ∷ codes "<g transform='translate(0,28)'><path stroke-width='14' d='M7,-7h26' stroke='#9ed67d'/><text x='52'>thread 10</text></g"
-    ++ (codes ">"
-    ++ (10 ∷ codes "<g transform='translate(0,56)'><path stroke-width='14' d='M7,-7h26' stroke='#e8a900'/><text x='52'>thread 11</text></g"
-    ++ (codes ">"
+    ++ (10 ∷ codes "<g transform='translate(0,28)'><path stroke-width='14' d='M7,-7h26' stroke='#9ed67d'/><text x='52'>thread 10</text>"
+    ++ (codes "<text class='small' x='165'>Mint Green</text></g>"
+    ++ (10 ∷ codes "<g transform='translate(0,56)'><path stroke-width='14' d='M7,-7h26' stroke='#e8a900'/><text x='52'>thread 11</text>"
+    ++ (codes "<text class='small' x='165'>Deep Gold</text></g>"
     ++ (10 ∷ codes "</g>"
     ++ (10 ∷ codes "</g>"
     ++ (10 ∷ codes "</g>"
@@ -178,6 +179,6 @@ pub known_drawing_picture : picture_of_pieces drawing (map (piece_graph drawing)
     ≡ top ++ (grid ++ (paths ++ (labels ++ (marks ++ (below ++ (key ++ legend))))))
 unfolding around below_start block_start column_start coloured_path colour_of_thread coordinate_end counts_text digits drawing_below
     drawing_marks drawing_with filled foot_text grid_start grid_words group_end head_text labels_start left_label mark_keys mark_text
-    more_blocks move_text path_end place_shape place_words right_label row_start shape_at straight_text stretch_shape thread_end
-    title_text told top_text
+    more_blocks move_text name_of_thread path_end place_shape place_words right_label row_start shape_at straight_text stretch_shape
+    thread_end title_text told top_text
 known_drawing_picture = refl

@@ -7,13 +7,14 @@ use Rattle.design_model.specs.declared.command.Command.TheVariants.{Stitch}
 use Rattle.design_picture.specs.Captions.{block_start, block_words, caption, group_end, key_text}
 use Rattle.design_picture.specs.Layers.{path_layer}
 use Rattle.design_picture.specs.Layouts.{below_start, title_text, top_text}
-use Rattle.design_picture.specs.Pictures.{below_text, over_text, threads_text}
+use Rattle.design_picture.specs.Pictures.{below_text, over_text, seconds_text, threads_text}
 use Rattle.design_picture.specs.StrokeMarks.{piece_number}
 use Rattle.design_picture.specs.Threads.{arc_text, arrow_shape, hole_shape}
 use Rattle.drawing_picture.specs.declared.proof_captions.TheConstants.{REASON_LINES}
 use Rattle.drawing_picture.specs.BandTexts.{band_group}
 use Rattle.drawing_picture.specs.ProofPictures.{proof_with, reason_lines}
 use Rattle.design_model.specs.Lengths.{length_of, square_of, whole_root}
+use Rattle.picture_parts.specs.AgainColours.{again_colour_of}
 use Rattle.picture_parts.specs.Colours.{colour_of_thread}
 use Rattle.picture_parts.specs.Marks.{mark_text, shape_at}
 use Rattle.picture_parts.specs.Parts.{around, filled}
@@ -34,14 +35,14 @@ abbrev top : List ℕ
 top = codes "<svg xmlns='http://www.w3.org/2000/svg' width='68.0mm' height='47.8mm' viewBox='0,0,680,478'>"
     ++ (10 ∷ codes "<path fill='#d9d1be' d='M0,0h680v478h-680z'/>" ++ (10 ∷ style_text
     ++ (codes "<title>Embroidery I</title>"
-    ++ (10 ∷ codes "<desc>Each thread is sewn from its triangle to its square, along the arrows. "
-    ++ (codes "A stitch that is sewn again is drawn beside the first.</desc>"
+    ++ (10 ∷ codes "<desc>No thread over a piece has fewer stitches than the one that is shown: the bands of the cuts prove it. "
+    ++ (codes "Each thread is sewn from its triangle to its square, along the arrows, and what is sewn again is drawn in dashes beside the first.</desc>"
     ++ (10 ∷ codes "<g transform='translate(60,60)'>" ++ 10 ∷ []))))))
 
--- Bands are in half tenths of a millimetre, below the thread. Above it are what is sewn again, then holes, arrows and marks.
+-- Bands are in half tenths of a millimetre, below the thread. Above it is what is sewn again, orange on blue, then holes, arrows and marks.
 abbrev layers : List ℕ
 layers = codes "<g transform='scale(.5)'>" ++ (10 ∷ codes "BANDS</g>" ++ (10 ∷ codes "<path class='thread' stroke='#0e1f7c' d='"
-    ++ (10 ∷ codes "M0,0L30,0A30,30,0,0,1,0,0'/>" ++ (10 ∷ codes "<path class='second' d='"
+    ++ (10 ∷ codes "M0,0L30,0A30,30,0,0,1,0,0'/>" ++ (10 ∷ codes "<path class='again' stroke='#ff6a00' d='"
     ++ (10 ∷ codes "M30,0A30,30,0,0,1,0,0'/>" ++ (10 ∷ codes "<path class='hole' d='M0,0h0M30,0h0M0,0h0'/>"
     ++ (10 ∷ codes "<path class='arrow' d='M30,0A30,30,0,0,1,0,0'/>" ++ (10 ∷ codes "<path class='start' d='M0,0m-23,-9l18,9l-18,9z'/>"
     ++ (10 ∷ codes "<text x='-4' y='-10' text-anchor='end' transform='translate(0,0)'>1</text>"
@@ -61,16 +62,16 @@ below = codes "<g transform='translate(0,0) translate(0,60)'>"
 -- The reason is 17 mm and a line of 2.8 mm below, and its last line has the steps.
 abbrev reason : List ℕ
 reason = codes "<g transform='translate(0,198)'>"
-    ++ (10 ∷ codes "<text class='small' y='24'>Blue: sewn again. Bands of one colour: a cut, round the junctions</text>"
-    ++ (10 ∷ codes "<text class='small' y='46'>that it holds, as wide as its weight. No thread has fewer stitches:</text>"
-    ++ (10 ∷ codes "<text class='small' y='68'>an odd number of lines leads out of each cut (a given end's way back</text>"
-    ++ (10 ∷ codes "<text class='small' y='90'>to the start is one), so a thread passes the width of its band once</text>"
-    ++ (10 ∷ codes "<text class='small' y='112'>more than the lines ask, and all bands together are as wide as</text>"
-    ++ (10 ∷ codes "<text class='small' y='134'>what is sewn again: steps 9.</text>" ++ (10 ∷ codes "</g>"
-    ++ (10 ∷ codes "</g>" ++ (10 ∷ codes "</g>" ++ (10 ∷ codes "</svg>" ++ 10 ∷ []))))))))))
+    ++ (10 ∷ codes "<text y='24'>No thread over a piece has fewer stitches.</text>"
+    ++ (10 ∷ codes "<text class='small' y='46'>Dashes: what is sewn again. Bands of one colour: a cut, round the</text>"
+    ++ (10 ∷ codes "<text class='small' y='68'>junctions that it holds, as wide as its weight. An odd number of lines</text>"
+    ++ (10 ∷ codes "<text class='small' y='90'>leads out of each cut (a given end's way back to the start is one), so</text>"
+    ++ (10 ∷ codes "<text class='small' y='112'>a thread passes the width of its band once more than the lines ask,</text>"
+    ++ (10 ∷ codes "<text class='small' y='134'>and all bands together are as wide as what is sewn again: steps 9.</text>"
+    ++ (10 ∷ codes "</g>" ++ (10 ∷ codes "</g>" ++ (10 ∷ codes "</g>" ++ (10 ∷ codes "</svg>" ++ 10 ∷ []))))))))))
 
 pub known_proof_picture : proof_of_design design (codes "BANDS") 9 ≡ top ++ (layers ++ (below ++ reason))
-unfolding arc_text around arrow_shape band_group below_start below_text block_start block_words caption coloured_path colour_of_thread
+unfolding again_colour_of arc_text around arrow_shape band_group below_start below_text block_start block_words caption coloured_path colour_of_thread
     digits filled foot_text group_end head_text hole_shape length_of mark_text move_text name_of_thread over_text path_end path_layer
-    path_start piece_number proof_with reason_lines shape_at square_of straight_text threads_text title_text top_text whole_root
+    path_start piece_number proof_with reason_lines seconds_text shape_at square_of straight_text threads_text title_text top_text whole_root
 known_proof_picture = refl

@@ -17,6 +17,7 @@ use Rattle.picture_parts.specs.declared.marks.Mark.TheVariants as mark
 use Rattle.picture_parts.specs.Colours.{colour_of_thread}
 use Rattle.picture_parts.specs.Marks.{mark_text}
 use Rattle.picture_parts.specs.Parts.{ended, filled}
+use Rattle.picture_parts.specs.ThreadNames.{name_of_thread}
 
 -- What the picture of a drawing shows, in words.
 abbrev pub drawing_words : List ℕ
@@ -105,13 +106,14 @@ grid_words step labels = filled (codes "<text class='small' y='215'>Grid of @ mm
     ++ ended (codes "<g transform='translate(0,248)'>"))))
     (decimal (step / 10) ∷ labels ∷ [])
 
--- The end of the line of a thread.
-unfoldable pub thread_end : List ℕ
-thread_end = filled (ended (codes "</text></g>")) []
+-- The end of the line of a thread, with its name.
+unfoldable pub thread_end : List ℕ → List ℕ
+thread_end name = filled (ended (codes "</text><text class='small' x='165'>@</text></g>")) (name ∷ [])
 
--- The line of the thread of a block.
+-- The line of the thread of a block: its colour, its number and its name in the palette.
 abbrev pub thread_line : ℕ → ℕ → List ℕ
-thread_line block thread = block_start block (colour_of_thread thread) thread ++ thread_end
+thread_line block thread =
+    block_start block (colour_of_thread thread) thread ++ thread_end (name_of_thread thread)
 
 -- The lines of the threads of blocks from the given number on.
 abbrev pub thread_lines : ℕ → List ℕ → List ℕ

@@ -7,7 +7,7 @@ use crate::place_marks::{PlaceMark, count_marks, put_place};
 use design_model::{Bytes, Memory, Point};
 use design_picture::{LINE_HEIGHT, put_block_start};
 use line_meetings::Meeting;
-use picture_parts::{Mark, Part, put, put_mark, thread_colour};
+use picture_parts::{Mark, Part, put, put_mark, thread_colour, thread_name};
 
 /// What the picture of a drawing shows.
 pub(crate) const WORDS: &[u8] =
@@ -203,15 +203,19 @@ fn put_thread_line(text: &mut Bytes, block: u32, thread: u8) -> Result<(), Memor
     ensures { OnOk result (text.new ≡ text.old ++ thread_line block thread) }
 {
     put_block_start(text, block, thread_colour(thread), thread)?;
-    put_thread_end(text)?;
+    put_thread_end(text, thread_name(thread))?;
     Ok(())
 }
 
 #[tactic(auto, unfolding(crate::specs::DrawingCaptions::thread_end))]
-fn put_thread_end(text: &mut Bytes) -> Result<(), Memory>
-    ensures { OnOk result (text.new ≡ text.old ++ thread_end) }
+fn put_thread_end(text: &mut Bytes, name: &[u8]) -> Result<(), Memory>
+    ensures { OnOk result (text.new ≡ text.old ++ thread_end name.now) }
 {
-    put(text, b"</text></g>\n", &[])
+    put(
+        text,
+        b"</text><text class='small' x='165'>@</text></g>\n",
+        &[Part::Text(name)],
+    )
 }
 
 /// Appends how many blocks of so many have no line in the legend.

@@ -7,13 +7,16 @@ use design_picture::LINE_HEIGHT;
 use odd_cuts::PieceCert;
 use picture_parts::{Part, put};
 
-/// Why no thread has fewer stitches, without its last line.
-const REASON: &[u8] =
-    b"<text class='small' y='24'>Blue: sewn again. Bands of one colour: a cut, round the junctions</text>\n\
-<text class='small' y='46'>that it holds, as wide as its weight. No thread has fewer stitches:</text>\n\
-<text class='small' y='68'>an odd number of lines leads out of each cut (a given end's way back</text>\n\
-<text class='small' y='90'>to the start is one), so a thread passes the width of its band once</text>\n\
-<text class='small' y='112'>more than the lines ask, and all bands together are as wide as</text>\n";
+/// What the picture of a proof shows.
+pub(crate) const PROOF_WORDS: &[u8] =
+    b"No thread over a piece has fewer stitches than the one that is shown: the bands of the cuts prove it. Each thread is sewn from its triangle to its square, along the arrows, and what is sewn again is drawn in dashes beside the first.";
+
+/// That no thread has fewer stitches, and why, without the last line.
+const REASON: &[u8] = b"<text y='24'>No thread over a piece has fewer stitches.</text>\n\
+<text class='small' y='46'>Dashes: what is sewn again. Bands of one colour: a cut, round the</text>\n\
+<text class='small' y='68'>junctions that it holds, as wide as its weight. An odd number of lines</text>\n\
+<text class='small' y='90'>leads out of each cut (a given end's way back to the start is one), so</text>\n\
+<text class='small' y='112'>a thread passes the width of its band once more than the lines ask,</text>\n";
 
 /// The height of the reason, in lines of the legend.
 pub const REASON_LINES: u32 = 5;
@@ -30,7 +33,7 @@ pub(crate) fn steps_again(certs: &[PieceCert]) -> u64
     steps
 }
 
-/// Appends the reason why no thread has fewer stitches, below a legend of so many lines.
+/// Appends that no thread has fewer stitches, and why, below a legend of so many lines.
 #[tactic(auto, unfolding(crate::specs::ProofPictures::reason_lines))]
 pub(crate) fn put_reason(text: &mut Bytes, lines: u32, steps: u64) -> Result<(), Memory>
     ensures { OnOk result (text.new ≡ text.old ++ reason_lines lines steps) }
@@ -38,7 +41,7 @@ pub(crate) fn put_reason(text: &mut Bytes, lines: u32, steps: u64) -> Result<(),
     put(
         text,
         b"<g transform='translate(0,@)'>\n@\
-        <text class='small' y='134'>what is sewn again: steps @.</text>\n</g>\n",
+        <text class='small' y='134'>and all bands together are as wide as what is sewn again: steps @.</text>\n</g>\n",
         &[
             Part::Number((170 + LINE_HEIGHT * lines as u64) as u128),
             Part::Text(REASON),

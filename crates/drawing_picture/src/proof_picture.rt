@@ -1,16 +1,16 @@
 ghost use Rattle.design_model.specs.declared.design.TheConstants.{MAX_COMMANDS};
 ghost use Rattle.design_picture.specs.Pens.{HasCounted};
 ghost use Rattle.drawing_picture.specs.BandTexts.{bands_of_pieces};
-ghost use Rattle.drawing_picture.specs.ProofPictures.{proof_area as area_of_proof, proof_of_design, proof_with, retraced_steps};
+ghost use Rattle.drawing_picture.specs.ProofPictures.{proof_area as area_of_proof, proof_of_design, proof_top, proof_with, retraced_steps};
 ghost use Rattle.line_graph.specs.PiecesOfDrawings.{graph_of};
-ghost use Rattle.std.specs.Prelude.{◌≡◌, ◌<◌, ◌-◌, ◌^◌, All, IfOk, length, map};
+ghost use Rattle.std.specs.Prelude.{◌≡◌, ◌++◌, ◌<◌, ◌-◌, ◌^◌, All, IfOk, OnOk, length, map};
 
 use crate::line_bands::put_pieces;
-use crate::proof_captions::{REASON_LINES, put_band_group, put_reason, steps_again};
+use crate::proof_captions::{PROOF_WORDS, REASON_LINES, put_band_group, put_reason, steps_again};
 use design_model::{Bytes, Design, Memory, extent};
 use design_picture::{
-    Area, Hoop, Layer, Pen, Stroke, Strokes, area_of, put_below, put_design_top, put_over,
-    put_path_layer, put_strokes, put_threads,
+    Area, Hoop, Pen, Stroke, Strokes, area_of, put_below, put_over, put_seconds, put_strokes,
+    put_threads, put_top,
 };
 use line_graph::{Drawing, Piece};
 use odd_cuts::PieceCert;
@@ -58,15 +58,24 @@ fn drawn(
 {
     let mut text = Bytes::new(alloc);
     let area = proof_area(design, pen);
-    put_design_top(&mut text, design, area)?;
+    put_proof_top(&mut text, design, area)?;
     put_band_group(&mut text, bands)?;
     put_threads(&mut text, design, strokes)?;
-    put_path_layer(&mut text, b"second", Layer::Seconds, strokes)?;
+    put_seconds(&mut text, design, strokes)?;
     put_over(&mut text, strokes, pen)?;
     put_below(&mut text, design, area, strokes, pen)?;
     put_reason(&mut text, pen.stops + 1, steps)?;
     put_foot(&mut text)?;
     Ok(text)
+}
+
+/// Appends what comes before the shapes of the picture of a proof.
+fn put_proof_top(text: &mut Bytes, design: &Design, area: Area) -> Result<(), Memory>
+    requires side { area.side < 2 ^ 32 }
+    requires above { area.above < 2 ^ 32 }
+    ensures { OnOk result (text.new ≡ text.old ++ proof_top design.now area) }
+{
+    put_top(text, area, design.label(), PROOF_WORDS)
 }
 
 fn proof_area(design: &Design, pen: Pen) -> Area

@@ -163,7 +163,8 @@ const PICTURES: [DrawnCase; 5] = [
         &["a.rw", "a.cert", "a.svg"],
         &[
             b"<g transform='scale(.5)'>\n<path class='band' stroke='#1b9e77' d='M0,0 10,0 20,0 30,0 40,0 '/>\n</g>\n",
-            b"<path class='second' d='\nM20,0A5,5,0,0,1,10,0\nM10,0A5,5,0,0,1,0,0'/>\n",
+            b"<path class='again' stroke='#1d3bd1' d='\nM20,0A5,5,0,0,1,10,0\nM10,0A5,5,0,0,1,0,0'/>\n",
+            b"<text y='24'>No thread over a piece has fewer stitches.</text>\n",
             b"what is sewn again: steps 2.</text>\n",
         ],
     ),
@@ -177,7 +178,7 @@ const PICTURES: [DrawnCase; 5] = [
             b" x='60000' y='60000' dx='-76' dy='14'>P1</text>\n",
             b"pieces 3, junctions 7, odd junctions 6</text>\n<text y='100'>lines 4 as drawn, 4 as sewn</text>\n",
             b">loose ends 1</text>",
-            b"d='M7,-7h26' stroke='#0e1f7c'/><text x='52'>thread 1</text></g>\n",
+            b"d='M7,-7h26' stroke='#0e1f7c'/><text x='52'>thread 1</text><text class='small' x='165'>Prussian Blue</text></g>\n",
         ],
     ),
 ];
