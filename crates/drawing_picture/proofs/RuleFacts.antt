@@ -35,7 +35,8 @@ unfolding digits
 known_coordinates = refl
 
 -- A point that nearly meets a line is a loose end where it is an end of its line.
-pub known_marks_of_kinds : (mark_of_kind meeting.ClosePoints true ≡ place.LooseEnd) × (mark_of_kind meeting.ClosePoints false ≡ place.NearPoint)
+pub known_marks_of_kinds : (mark_of_kind meeting.ClosePoints true ≡ place.LooseEnd)
+    × (mark_of_kind meeting.ClosePoints false ≡ place.NearPoint)
     × (mark_of_kind meeting.BesideSegment true ≡ place.LooseEnd) × (mark_of_kind meeting.BesideSegment false ≡ place.NearPoint)
     × (mark_of_kind meeting.OnSegment true ≡ place.Unlisted) × (mark_of_kind meeting.Crossing false ≡ place.Crossing)
     × (mark_of_kind meeting.Overlap false ≡ place.Overlap) × (mark_of_kind meeting.Repeat false ≡ place.Repeat)
@@ -92,7 +93,8 @@ pub known_middles : map line_middle ((at 0 ∷ at 7 ∷ []) ∷ (at 0 ∷ at 4 �
 known_middles = refl
 
 -- 64 lines have labels, and 65 don't.
-pub known_limits : map (λ (n : ℕ). length (labels_of [] (replicate n (record { block = 0; points = at 0 ∷ at 4 ∷ [] })))) (64 ∷ 65 ∷ []) ≡ 64 ∷ 0 ∷ []
+pub known_limits : map (λ (n : ℕ). length (labels_of [] (replicate n (record { block = 0; points = at 0 ∷ at 4 ∷ [] })))) (64 ∷ 65 ∷ [])
+    ≡ 64 ∷ 0 ∷ []
 known_limits = refl
 
 abbrev label : ℕ → HalfPoint → Label
@@ -113,7 +115,8 @@ pub known_orders : (numbers (labels_on side.Left grid labels) ≡ 3 ∷ 1 ∷ 5 
 known_orders = (refl, refl)
 
 -- A row is at what it names, unless that is taken or others need it.
-pub known_rows : (label_row 1000 0 500 3 ≡ 500) × (label_row 1000 600 500 3 ≡ 600) × (label_row 1000 0 900 3 ≡ 856) × (label_row 100 40 90 3 ≡ 40)
+pub known_rows : (label_row 1000 0 500 3 ≡ 500) × (label_row 1000 600 500 3 ≡ 600) × (label_row 1000 0 900 3 ≡ 856)
+    × (label_row 100 40 90 3 ≡ 40)
 known_rows = (refl, refl, refl, refl)
 
 -- 25 blocks are listed, and of 26 the first 24.
@@ -130,7 +133,8 @@ pub known_labels_words :
     × (labels_words 65 65 ≡ codes "Blue: the first 64 pieces, as look has them. More than 64 lines have none.")
 known_labels_words = (refl, refl, refl)
 
-pub known_grid_words : grid_words 500 (codes "W") ≡ codes "<text class='small' y='215'>Grid of 50 mm, with coordinates in tenths of a millimetre.</text>"
+pub known_grid_words : grid_words 500 (codes "W")
+    ≡ codes "<text class='small' y='215'>Grid of 50 mm, with coordinates in tenths of a millimetre.</text>"
     ++ (10 ∷ codes "<text class='small' y='241'>W</text>" ++ (10 ∷ codes "<g transform='translate(0,248)'>" ++ 10 ∷ []))
 unfolding digits filled grid_words
 known_grid_words = refl

@@ -161,7 +161,8 @@ key = codes "<path class='start' d='M2,112l18,9l-18,9z'/><text class='small' x='
     ++ (10 ∷ codes "<text class='small' x='42' y='187'>crossings 1</text><text class='small' x='242' y='187'>overlaps 0</text><text class="
     ++ (codes "'small' x='456' y='187'>repeated segments 0</text>"
     ++ (10 ∷ codes "<text class='small' y='215'>Grid of 10 mm, with coordinates in tenths of a millimetre.</text>"
-    ++ (10 ∷ codes "<text class='small' y='241'>Blue: the numbers of lines, and of pieces P1, P2 and so on, as look has them.</text>" ++ 10 ∷ []))))))))))))))))
+    ++ (10 ∷ codes "<text class='small' y='241'>Blue: the numbers of lines, and of pieces P1, P2 and so on, as look has them.</text>"
+    ++ 10 ∷ []))))))))))))))))
 
 -- The threads of the two blocks, and the ends of the four groups.
 abbrev legend : List ℕ

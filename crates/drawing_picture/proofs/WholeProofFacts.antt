@@ -36,10 +36,12 @@ top = codes "<svg xmlns='http://www.w3.org/2000/svg' width='68.0mm' height='47.8
     ++ (10 ∷ codes "<path fill='#d9d1be' d='M0,0h680v478h-680z'/>" ++ (10 ∷ style_text
     ++ (codes "<title>Embroidery I</title>"
     ++ (10 ∷ codes "<desc>No thread over a piece has fewer stitches than the one that is shown: the bands of the cuts prove it. "
-    ++ (codes "Each thread is sewn from its triangle to its square, along the arrows, and what is sewn again is drawn in dashes beside the first.</desc>"
-    ++ (10 ∷ codes "<g transform='translate(60,60)'>" ++ 10 ∷ []))))))
+    ++ (codes "Each thread is sewn from its triangle to its square, along the arrows, and what is sewn again is drawn in "
+    ++ (codes "dashes beside the first.</desc>"
+    ++ (10 ∷ codes "<g transform='translate(60,60)'>" ++ 10 ∷ [])))))))
 
--- Bands are in half tenths of a millimetre, below the thread. Above it is what is sewn again, orange on blue, then holes, arrows and marks.
+-- Bands are in half tenths of a millimetre, below the thread. Above it is what is sewn again, orange on blue, then holes, arrows and
+-- marks.
 abbrev layers : List ℕ
 layers = codes "<g transform='scale(.5)'>" ++ (10 ∷ codes "BANDS</g>" ++ (10 ∷ codes "<path class='thread' stroke='#0e1f7c' d='"
     ++ (10 ∷ codes "M0,0L30,0A30,30,0,0,1,0,0'/>" ++ (10 ∷ codes "<path class='again' stroke='#ff6a00' d='"
@@ -56,8 +58,9 @@ below = codes "<g transform='translate(0,0) translate(0,60)'>"
     ++ (10 ∷ codes "<text y='100'>thread 6.0 mm, travel 0.0 mm</text>" ++ (10 ∷ key_text
     ++ (codes "<g transform='translate(0,160)'>"
     ++ (10 ∷ codes "<g transform='translate(0,28)'><path stroke-width='14' d='M7,-7h26' stroke='#0e1f7c'/>"
-    ++ (codes "<text x='52'>thread 1</text><text class='small' x='165'>Prussian Blue</text><text x='305'>needles 3</text><text x='480'>6.0 mm</text></g>"
-    ++ (10 ∷ codes "</g>" ++ 10 ∷ [])))))))))
+    ++ (codes "<text x='52'>thread 1</text><text class='small' x='165'>Prussian Blue</text>"
+    ++ (codes "<text x='305'>needles 3</text><text x='480'>6.0 mm</text></g>"
+    ++ (10 ∷ codes "</g>" ++ 10 ∷ []))))))))))
 
 -- The reason is 17 mm and a line of 2.8 mm below, and its last line has the steps.
 abbrev reason : List ℕ
@@ -71,7 +74,8 @@ reason = codes "<g transform='translate(0,198)'>"
     ++ (10 ∷ codes "</g>" ++ (10 ∷ codes "</g>" ++ (10 ∷ codes "</g>" ++ (10 ∷ codes "</svg>" ++ 10 ∷ []))))))))))
 
 pub known_proof_picture : proof_of_design design (codes "BANDS") 9 ≡ top ++ (layers ++ (below ++ reason))
-unfolding again_colour_of arc_text around arrow_shape band_group below_start below_text block_start block_words caption coloured_path colour_of_thread
-    digits filled foot_text group_end head_text hole_shape length_of mark_text move_text name_of_thread over_text path_end path_layer
-    path_start piece_number proof_with reason_lines seconds_text shape_at square_of straight_text threads_text title_text top_text whole_root
+unfolding again_colour_of arc_text around arrow_shape band_group below_start below_text block_start block_words caption coloured_path
+    colour_of_thread digits filled foot_text group_end head_text hole_shape length_of mark_text move_text name_of_thread over_text path_end
+    path_layer path_start piece_number proof_with reason_lines seconds_text shape_at square_of straight_text threads_text title_text
+    top_text whole_root
 known_proof_picture = refl

@@ -72,9 +72,9 @@ place_keys = place_text place.LooseEnd (key_place 18 147) (key_place 18 147)
 -- The words beside the marks of places, each with its number of places.
 unfoldable pub place_words : (loose near unlisted crossing overlap repeat : ℕ) → List ℕ
 place_words loose near unlisted crossing overlap repeat =
-    filled (codes "<text class='small' x='42' y='153'>loose ends @</text><text class='small' x='242'"
-    ++ (codes " y='153'>near points @</text><text class='small' x='456' y='153'>unlisted meetings "
-    ++ (ended (codes "@</text>")
+    filled (codes "<text class='small' x='42' y='153'>loose ends @</text><text class='small'"
+    ++ (codes " x='242' y='153'>near points @</text><text class='small' x='456' y='153'>unlisted"
+    ++ (ended (codes " meetings @</text>")
     ++ (codes "<text class='small' x='42' y='187'>crossings @</text><text class='small' x='242'"
     ++ (codes " y='187'>overlaps @</text><text class='small' x='456' y='187'>repeated segments "
     ++ ended (codes "@</text>"))))))
@@ -83,7 +83,8 @@ place_words loose near unlisted crossing overlap repeat =
 
 -- What the marks of places mean, and how many there are of each.
 abbrev pub places_text : List Meeting → List ℕ
-places_text meetings = place_keys ++ place_words (count_of_mark (mark_number place.LooseEnd) meetings)
+places_text meetings = place_keys ++ place_words (count_of_mark
+    (mark_number place.LooseEnd) meetings)
     (count_of_mark (mark_number place.NearPoint) meetings)
     (count_of_mark (mark_number place.Unlisted) meetings)
     (count_of_mark (mark_number place.Crossing) meetings)
@@ -100,7 +101,8 @@ labels_words pieces lines = if nat_le lines MAX_LABELS
 
 -- The spacing of the grid and what has numbers, and the group of the legend.
 unfoldable pub grid_words : ℕ → List ℕ → List ℕ
-grid_words step labels = filled (codes "<text class='small' y='215'>Grid of @ mm, with coordinates in"
+grid_words step labels = filled
+    (codes "<text class='small' y='215'>Grid of @ mm, with coordinates in"
     ++ (ended (codes " tenths of a millimetre.</text>")
     ++ (ended (codes "<text class='small' y='241'>@</text>")
     ++ ended (codes "<g transform='translate(0,248)'>"))))
@@ -108,7 +110,8 @@ grid_words step labels = filled (codes "<text class='small' y='215'>Grid of @ mm
 
 -- The end of the line of a thread, with its name.
 unfoldable pub thread_end : List ℕ → List ℕ
-thread_end name = filled (ended (codes "</text><text class='small' x='165'>@</text></g>")) (name ∷ [])
+thread_end name = filled (ended (codes "</text><text class='small' x='165'>@</text></g>"))
+    (name ∷ [])
 
 -- The line of the thread of a block: its colour, its number and its name in the palette.
 abbrev pub thread_line : ℕ → ℕ → List ℕ

@@ -75,8 +75,8 @@ drawing_below d area step drawn pieces marks meetings =
     ++ (mark_keys ++ (places_text meetings ++ (grid_words step (labels_words pieces drawn)
     ++ (legend_of d.threads ++ group_end)))))
 
--- The picture of a drawing of so many pieces and lines as drawn, with the marks of its junctions and
--- meetings, and with labels on both sides of its grid.
+-- The picture of a drawing of so many pieces and lines as drawn, with the marks of its junctions
+-- and meetings, and with labels on both sides of its grid.
 unfoldable pub drawing_with : DrawingValue → Area → (drawn pieces : ℕ) → List JunctionMark
     → List Meeting → (left right : List Label) → List ℕ
 drawing_with d area drawn pieces marks meetings left right = drawing_top d area

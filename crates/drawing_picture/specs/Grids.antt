@@ -56,7 +56,8 @@ coordinate_text at = signed_decimal (pos at -ℤ pos 30000)
 
 -- A column, and above it the beginning of its coordinate.
 unfoldable pub column_start : (at top bottom : ℕ) → List ℕ
-column_start at top bottom = filled (codes "<path d='M@,@V@'/><text class='small' style='fill:#6b6454'"
+column_start at top bottom = filled
+    (codes "<path d='M@,@V@'/><text class='small' style='fill:#6b6454'"
     ++ codes " text-anchor='middle' x='@' y='@' dy='-20'>")
     (decimal at ∷ decimal top ∷ decimal bottom ∷ decimal at ∷ decimal top ∷ [])
 

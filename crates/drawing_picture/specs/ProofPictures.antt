@@ -1,6 +1,6 @@
 -- The picture of a proof: the walks of a certificate as the design that sews them, with what is
--- sewn again in dashes of a second colour, and the cuts as bands. Below it stands that no thread has
--- fewer stitches, and why. The unit is a tenth of a millimetre.
+-- sewn again in dashes of a second colour, and the cuts as bands. Below it stands that no thread
+-- has fewer stitches, and why. The unit is a tenth of a millimetre.
 use Rattle.std.specs.Prelude.{ℕ, ◌+◌, ◌*◌, List, [], ◌∷◌, ◌++◌, codes, sum_by}
 use Rattle.std.specs.Fmt.{decimal}
 use Rattle.design_model.specs.Designs.{DesignValue}
@@ -33,9 +33,9 @@ retraced_steps certs = sum_by (λ (cert : PieceCert). cert.retraced) certs
 
 -- What the picture of a proof shows, in words.
 abbrev pub proof_words : List ℕ
-proof_words = codes "No thread over a piece has fewer stitches than the one that is shown: the bands of"
-    ++ (codes " the cuts prove it. Each thread is sewn from its triangle to its square, along the"
-    ++ codes " arrows, and what is sewn again is drawn in dashes beside the first.")
+proof_words = codes "No thread over a piece has fewer stitches than the one that is shown: the"
+    ++ (codes " bands of the cuts prove it. Each thread is sewn from its triangle to its square,"
+    ++ codes " along the arrows, and what is sewn again is drawn in dashes beside the first.")
 
 -- The text before the shapes of the picture of a proof.
 abbrev pub proof_top : DesignValue → Area → List ℕ
@@ -44,21 +44,21 @@ proof_top design area = top_text area design.label proof_words
 -- That no thread has fewer stitches, and why, without the last line.
 abbrev pub reason_text : List ℕ
 reason_text = codes "<text y='24'>No thread over a piece has fewer stitches.</text>"
-    ++ (10 ∷ codes "<text class='small' y='46'>Dashes: what is sewn again. Bands of one colour: a cut,"
-    ++ (codes " round the</text>"
-    ++ (10 ∷ codes "<text class='small' y='68'>junctions that it holds, as wide as its weight. An odd"
-    ++ (codes " number of lines</text>"
+    ++ (10 ∷ codes "<text class='small' y='46'>Dashes: what is sewn again. Bands of one colour:"
+    ++ (codes " a cut, round the</text>"
+    ++ (10 ∷ codes "<text class='small' y='68'>junctions that it holds, as wide as its weight. An"
+    ++ (codes " odd number of lines</text>"
     ++ (10 ∷ codes "<text class='small' y='90'>leads out of each cut (a given end's way back to the"
     ++ (codes " start is one), so</text>"
-    ++ (10 ∷ codes "<text class='small' y='112'>a thread passes the width of its band once more than"
-    ++ ended (codes " the lines ask,</text>"))))))))
+    ++ (10 ∷ codes "<text class='small' y='112'>a thread passes the width of its band once"
+    ++ ended (codes " more than the lines ask,</text>"))))))))
 
 -- The lines of the reason, below a legend of so many lines.
 unfoldable pub reason_lines : ℕ → ℕ → List ℕ
 reason_lines lines steps = filled (codes "<g transform='translate(0,@)'>"
-    ++ (10 ∷ codes "@<text class='small' y='134'>and all bands together are as wide as what is sewn again: steps @.</text>"
-    ++ (10 ∷ ended (codes "</g>")))) (decimal (170 + LINE_HEIGHT * lines) ∷ reason_text
-    ∷ decimal steps ∷ [])
+    ++ (10 ∷ codes "@<text class='small' y='134'>and all bands together are as wide as what is"
+    ++ (codes " sewn again: steps @.</text>" ++ (10 ∷ ended (codes "</g>")))))
+    (decimal (170 + LINE_HEIGHT * lines) ∷ reason_text ∷ decimal steps ∷ [])
 
 -- The picture of the strokes of a design, with bands. What is sewn again is in dashes of a second
 -- colour, above the thread and below the needle holes.
