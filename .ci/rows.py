@@ -149,9 +149,6 @@ class Rows:
 SCANNED = ("program_texts", "program_shell", "program_inputs", "route_texts", "stitch_cli",
            "picture_commands", "drawing_commands", "look_reports", "edited_designs", "design_commands")
 
-# A file that has a table alone: the names of threads.
-TABLES = ("picture_parts/thread_names.rt",)
-
 # Literals that are no refusals, by file, with the reason.
 EXCEPTIONS = {
     # reports of designs
@@ -197,7 +194,7 @@ EXCEPTIONS = {
     "design_commands/thread_texts.rt": ["thread {thread} ", "block {number} "],
     # words of the arguments
     "drawing_commands/drawing_edit_words.rt": ["centre", "step", "order", "start", "end"],
-    "picture_commands/words.rt": [".svg", "--help", "--version"],
+    "picture_commands/words.rt": [".svg", "--help", "--version", "plain", "ffffff"],
     "drawing_commands/requests.rt": ["look", "snap", "cross", "--keep", "space", "free", "near", "edit", "--help", "--version"],
     "drawing_commands/space_words.rt": ["length", "leeway"],
     "design_commands/requests.rt": ["look", "pass", "edit", "compare", "threads", "--threads", "--help", "--version"],
@@ -238,8 +235,6 @@ def unsaid_literals(said):
         folder = os.path.join(TOP, "crates", crate, "src")
         for name in sorted(os.listdir(folder)):
             place = f"{crate}/{name}"
-            if place in TABLES:
-                continue
             left = set(EXCEPTIONS.get(place, []))
             for literal in literals_of(open(os.path.join(folder, name), encoding="utf-8").read()):
                 if literal.rstrip("\n") in EXCEPTIONS.get(place, []):

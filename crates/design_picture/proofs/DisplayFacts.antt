@@ -1,9 +1,12 @@
 -- The constants of pictures of designs, and values at their bounds. Lengths are in tenths of a millimetre.
-use Rattle.std.proofs.Common.{◌≡◌, ℕ, pos, negsuc, true, false, [], ◌∷◌, Some, None, codes, ◌++◌, map, refl}
+use Rattle.std.proofs.Common.{◌≡◌, ℕ, pos, negsuc, true, false, List, [], ◌∷◌, Some, None, codes, ◌++◌, map, refl}
 use Rattle.std.specs.Fmt.{digits}
 use Rattle.design_picture.proofs.Names.{DesignValue, strokes_of}
 use Rattle.design_picture.proofs.PictureFacts.{point, sewn}
-use Rattle.design_model.specs.declared.command.Command.TheVariants.{Stitch}
+use Rattle.design_model.specs.declared.command.Command.TheVariants.{Jump, Stitch}
+use Rattle.design_model.specs.declared.command.Command.{Command}
+use Rattle.design_picture.specs.declared.crowds.TheConstants.{MIN_CROWD}
+use Rattle.design_picture.specs.Crowds.{crowd_square, crowds_text}
 use Rattle.design_picture.specs.declared.arrow_squares.TheConstants.{ARROW_SQUARE}
 use Rattle.design_picture.specs.declared.hoop.Rim.{Rim}
 use Rattle.design_model.specs.declared.bounds.Extent.{Extent}
@@ -122,3 +125,19 @@ pub known_arrows : layer_text layer.Arrows (strokes_of satin) ≡ codes "<path c
     ++ (10 ∷ codes "<path class='arrow' d='M4,0L64,0'/>" ++ 10 ∷ [])
 unfolding around arrow_shape digits filled length_of path_end square_of straight_text whole_root
 known_arrows = refl
+
+-- Needles of which each is 0.1 mm from the next or at it: with seven the first is marked, the command after a jump, and with six none.
+abbrev crowded : List Command → DesignValue
+crowded more = record {
+  label = [];
+  threads = [];
+  commands = Jump (point (pos 3) (pos 4)) ∷ Stitch (point (pos 10) (negsuc 1))
+      ∷ Stitch (point (pos 11) (negsuc 1)) ∷ Stitch (point (pos 10) (negsuc 1)) ∷ Stitch (point (pos 11) (negsuc 1))
+      ∷ Stitch (point (pos 10) (negsuc 1)) ∷ Stitch (point (pos 11) (negsuc 1)) ∷ more;
+}
+
+pub known_crowds : (crowds_text (crowded (Stitch (point (pos 10) (negsuc 1)) ∷ []))
+    ≡ codes "<path fill='none' stroke='#d00' stroke-width='2' d='M10,-2m-8,-8h16v16h-16z'/>" ++ 10 ∷ [])
+    × (crowds_text (crowded []) ≡ []) × (MIN_CROWD ≡ 7)
+unfolding crowd_square digits filled length_of square_of whole_root
+known_crowds = (refl, refl, refl)

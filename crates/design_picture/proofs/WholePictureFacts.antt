@@ -115,7 +115,9 @@ key = codes "<path class='start' d='M2,112l18,9l-18,9z'/><text class='small' x='
     ++ (codes "<path class='stop' d='M300,114h4v14h-4zm8,0h4v14h-4z'/><text class='small' x='322' y='127'>stop</text>"
     ++ (codes "<path class='trim' d='M376,115l12,12m-12,0l12,-12'/><text class='small' x='398' y='127'>trim</text>"
     ++ (codes "<path class='travel' d='M448,121h30h1'/><text class='small' x='490' y='127'>travel</text>"
-    ++ (10 ∷ codes "<text class='small' y='153'>Sewn again: beside the first, with dashes of blue or of orange.</text>" ++ 10 ∷ []))))))
+    ++ (10 ∷ codes "<text class='small' y='153'>Sewn again: beside the first, in dashes.</text>"
+    ++ (codes "<path fill='none' stroke='#d00' stroke-width='2' d='M345,139h16v16h-16z'/>"
+    ++ (codes "<text class='small' x='370' y='153'>7 needles or more in a hole</text>" ++ 10 ∷ []))))))))
 
 pub known_key : key_text ≡ key
 known_key = refl

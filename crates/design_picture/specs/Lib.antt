@@ -7,6 +7,7 @@ pub mod Captions
 pub mod Layers
 pub mod StrokeMarks
 pub mod Threads
+pub mod Crowds
 -- The strokes of a design, which the layers show.
 pub mod Strokes
 pub mod Pens

@@ -12,6 +12,7 @@ use Rattle.design_picture.specs.declared.layout.Area.{Area}
 use Rattle.design_picture.specs.declared.pen.Pen.{Pen}
 use Rattle.design_picture.specs.declared.strokes.Stroke.{Stroke}
 use Rattle.design_picture.specs.Captions.{block_line, caption, group_end}
+use Rattle.design_picture.specs.Crowds.{crowds_text}
 use Rattle.design_picture.specs.Hoops.{hoop_as_fits, hoop_key, hoop_text, rim_of}
 use Rattle.design_picture.specs.Layers.{layer_text, path_layer}
 use Rattle.design_picture.specs.Layouts.{area_of, below_start, corners, lower_left, top_text}
@@ -127,9 +128,9 @@ below_text d area strokes pen = below_start (lower_left area.corners) area.above
 -- The picture of strokes that a design has.
 unfoldable pub picture_with : DesignValue → Option Hoop → List Stroke → Pen → List ℕ
 picture_with d hoop strokes pen = design_top d (design_area d hoop pen) ++ (framed_text d hoop
-    ++ (sewn_text_of d hoop strokes ++ (over_text strokes pen
+    ++ (sewn_text_of d hoop strokes ++ (over_text strokes pen ++ (crowds_text d
     ++ (below_text d (design_area d hoop pen) strokes pen
-    ++ (hoop_key_if_given d hoop pen ++ foot_text)))))
+    ++ (hoop_key_if_given d hoop pen ++ foot_text))))))
 
 -- The picture of a design.
 abbrev pub picture_of : DesignValue → Option Hoop → List ℕ

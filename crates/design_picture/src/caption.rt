@@ -12,7 +12,7 @@ const KEY: &[u8] =
 <text class='small' x='226' y='127'>1 piece</text><path class='stop' d='M300,114h4v14h-4zm8,0h4v14h-4z'/>\
 <text class='small' x='322' y='127'>stop</text><path class='trim' d='M376,115l12,12m-12,0l12,-12'/>\
 <text class='small' x='398' y='127'>trim</text><path class='travel' d='M448,121h30h1'/><text class='small' x='490' y='127'>travel</text>\n\
-<text class='small' y='153'>Sewn again: beside the first, with dashes of blue or of orange.</text>\n";
+<text class='small' y='153'>Sewn again: beside the first, in dashes.</text><path fill='none' stroke='#d00' stroke-width='2' d='M345,139h16v16h-16z'/><text class='small' x='370' y='153'>7 needles or more in a hole</text>\n";
 
 /// Appends the texts below a picture, without its label and the lines of the legend: counts, lengths and what the
 /// marks mean. The group of the legend begins.

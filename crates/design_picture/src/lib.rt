@@ -5,6 +5,7 @@
 mod arrow_squares;
 mod block_line;
 mod caption;
+mod crowds;
 mod hoop;
 mod layers;
 mod layout;

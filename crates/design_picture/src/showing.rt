@@ -5,6 +5,7 @@ ghost use Rattle.std.specs.Prelude.{◌≡◌, ◌++◌, IfOk, OnOk, ◌<◌, �
 
 use crate::block_line::put_block;
 use crate::caption::{put_caption, put_group_end};
+use crate::crowds::put_crowds;
 use crate::hoop::{Hoop, as_fits, put_hoop, put_hoop_key, rim_outside};
 use crate::layers::{Layer, put_layer, put_path_layer};
 use crate::layout::{Area, area_of, corners_in, put_below_start, put_top};
@@ -49,6 +50,7 @@ fn drawn(
     put_framed(&mut text, design, hoop)?;
     put_sewn_threads(&mut text, design, hoop, strokes)?;
     put_over(&mut text, strokes, pen)?;
+    put_crowds(alloc, &mut text, design)?;
     put_below(&mut text, design, area, strokes, pen)?;
     put_hoop_key_if_given(&mut text, design, hoop, pen)?;
     put_foot(&mut text)?;
