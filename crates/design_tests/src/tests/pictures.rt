@@ -10,7 +10,7 @@ fn a_picture_shows_the_acts_in_order(rt: HostRuntime) -> Result<(), Fail> {
     let table = [
         (
             [stitch(0, 0), stitch(9, -9), Command::Trim],
-            "d='\nM0,0L9,-9'/>\n<path class='hole' d='M0,0h0M9,-9h0'/>\n",
+            "d='\nM0,0L9,-9'/>\n<path class='again' stroke='#ff6a00' d=''/>\n<path class='hole' d='M0,0h0M9,-9h0'/>\n",
         ),
         (
             [stitch(0, 0), Command::Stop, stitch(4, 5)],
