@@ -1,7 +1,7 @@
 -- What is proved of each command: its plan decides, and the outputs of its products are the files that it writes.
 use Rattle.std.proofs.Common.{List, [], ◌∷◌, ℕ, Bool, true, false, Option, Ok, Err, Result}
 use Rattle.near_pieces.specs.NearDrawings.{drawn_with}
-use Rattle.drawing_commands.proofs.Names.{DrawingValue, stitch_drawing_after, BadEdit, drawing_edit_read, edited_plan, edits_applied, look_read, DrawingOrder, editing, space_made, space_read, drawing_of, IsSoundPlan, accepts_sound, ends, named, parses_sound, program_sound, refuses_sound, SpacedDrawing, drawing_outputs_of, drawing_plan_of, IsEdited, IsLook, looking, spacing, telling, IsSpaceProduct, freeing, free_made, free_read, IsFreeProduct, lines_joined, JoinedLines, nearing, near_made, near_read, IsNearProduct, MetDrawing, IsMeetProduct, meet_made, met_of, meet_read, meeting}
+use Rattle.drawing_commands.proofs.Names.{DrawingValue, stitch_drawing_after, BadEdit, drawing_edit_read, edited_plan, edits_applied, look_read, DrawingOrder, editing, space_made, space_read, IsSoundPlan, accepts_sound, ends, named, parses_sound, program_sound, refuses_sound, SpacedDrawing, drawing_outputs_of, drawing_plan_of, IsEdited, IsLook, looking, spacing, telling, IsSpaceProduct, freeing, free_made, free_read, IsFreeProduct, lines_joined, JoinedLines, nearing, near_made, near_read, IsNearProduct, MetDrawing, IsMeetProduct, meet_made, met_of, meet_read, meeting}
 use Rattle.drawing_commands.specs.declared.text_reading.TextRead.{TextRead}
 use Rattle.drawing_commands.specs.TextsRead.{text_read}
 use Rattle.drawing_comments.specs.declared.text_comments.TextComments.{TextComments}

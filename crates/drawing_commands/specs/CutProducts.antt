@@ -1,5 +1,5 @@
 -- Drawings that are written with their lines cut where they meet, and with comments.
-use Rattle.std.specs.Prelude.{◌≡◌, ℕ, List, [], Ok}
+use Rattle.std.specs.Prelude.{◌≡◌, ℕ, List, Ok}
 use Rattle.drawing_comments.specs.declared.text_comments.TextComments.{TextComments}
 use Rattle.drawing_comments.specs.CommentedTexts.{with_comments}
 use Rattle.drawing_comments.specs.CommentLaws.{spoken_lines}
