@@ -15,7 +15,7 @@ use Rattle.meeting_rounds.specs.MovedPoints.{lines_moved, merged_points, points_
 use Rattle.meeting_rounds.specs.NearLines.{LinesStayNear}
 use Rattle.meeting_rounds.specs.PointBounds.{bounds_of_point, reaches_bounds}
 use Rattle.meeting_rounds.specs.RoundLaws.{RoundsKeepLinesNear, unworked}
-use Rattle.meeting_rounds.specs.Rounds.{after_rounds, lines_after, round_acts, settled_lines, worked_by}
+use Rattle.meeting_rounds.specs.Rounds.{acts_on_lines, after_rounds, are_too_long, lines_after, round_acts, settled_lines, worked_by}
 use Rattle.meeting_rounds.specs.TrackedLines.{lines_as_worked, tracked_from, tracked_lines, tracked_points}
 use Rattle.meeting_rounds.specs.declared.acts.Acts.{Acts}
 use Rattle.meeting_rounds.specs.declared.rounds.TheConstants.{MAX_ROUNDS}
@@ -77,14 +77,20 @@ acts_tracks gap drawn lines acts has tracks =
     (λ i m is k. subst (λ (l : ℕ). All (λ n. NearIn gap k n (drop i lines)) (places_put acts.puts (record { line = l; segment = k })))
     (let back : i ≡ m = omega (arith, is) in back) (puts_near gap lines acts.puts has i k)) tracks
 
+puts_either : (gap : ℕ) (lines : List TrackedLine) (b : Bool) (acts : Acts) → HasPuts gap lines acts
+    → HasPuts gap lines (if b then no_acts else acts)
+puts_either gap lines true acts has = All-nil (MayBePut gap lines)
+puts_either gap lines false acts has = has
+
 rounds_track : (rounds : ℕ) (lists : Bool) (gap : ℕ) (drawn : List LineValue) (worked : WorkedLines) → TracksLines gap drawn worked.lines
     → TracksLines gap drawn (after_rounds rounds lists gap worked).lines
 rounds_track zero lists gap drawn worked tracks = tracks
 rounds_track (suc n) lists gap drawn worked tracks = by_test acts.is_idle
     (rounds_track n lists gap drawn (worked_by gap acts worked)
     (acts_tracks gap drawn worked.lines acts
+    (puts_either gap worked.lines (are_too_long worked.lines) (acts_on_lines lists gap worked.lines)
     (puts_may_be lists gap (tracked_at worked.lines) worked.lines no_acts (meetings_of_lines gap (lines_as_worked worked.lines))
-    (All-nil (MayBePut gap worked.lines))) tracks))
+    (All-nil (MayBePut gap worked.lines)))) tracks))
   where
     acts : Acts
     acts = round_acts lists gap worked.lines

@@ -1,5 +1,5 @@
 -- Worked values of rounds, in tenths of a millimetre.
-use Rattle.std.proofs.Common.{◌≡◌, ℕ, pos, Bool, true, false, List, [], ◌∷◌, ◌++◌, refl}
+use Rattle.std.proofs.Common.{◌≡◌, ℕ, pos, Bool, true, false, nat_lt, if◌then◌else◌, List, [], ◌∷◌, ◌++◌, map, sum_by, refl, ap}
 use Rattle.design_model.specs.declared.point.Point.{Point}
 use Rattle.line_meetings.specs.Telling.{told}
 use Rattle.line_sections.specs.declared.spot.Spot.{Spot}
@@ -7,9 +7,12 @@ use Rattle.line_sections.specs.Lines.{LineValue}
 use Rattle.line_sections.specs.Sections.{lines_through}
 use Rattle.line_meetings.specs.declared.meeting.MeetingKind.TheVariants as meeting
 use Rattle.meeting_rounds.specs.RoundLaws.{is_passed_over}
-use Rattle.meeting_rounds.specs.Rounds.{after_rounds}
+use Rattle.meeting_rounds.specs.Acts.{no_acts}
+use Rattle.meeting_rounds.specs.Rounds.{acts_on_lines, after_rounds, are_too_long, round_acts}
 use Rattle.meeting_rounds.specs.TrackedLines.{lines_as_worked, tracked_lines}
+use Rattle.meeting_rounds.specs.declared.rounds.TheConstants.{MAX_ROUND_POINTS}
 use Rattle.meeting_rounds.specs.declared.rounds.WorkedLines.{WorkedLines}
+use Rattle.meeting_rounds.specs.declared.tracked_lines.TrackedLine.{TrackedLine}
 
 abbrev at : ℕ → ℕ → Point
 at x y = record { x = pos x; y = pos y }
@@ -72,3 +75,13 @@ pub known_passed : (is_passed_over true meeting.Repeat ≡ true) × (is_passed_o
     × (is_passed_over false meeting.ClosePoints ≡ false) × (is_passed_over false meeting.BesideSegment ≡ false)
     × (is_passed_over false meeting.OnSegment ≡ false)
 known_passed = (refl, refl, refl, refl, refl, refl, refl)
+
+-- Rounds are for as many points as a drawing may have, and on longer lines nothing is done.
+pub known_round_points : MAX_ROUND_POINTS ≡ 65536
+known_round_points = refl
+
+pub known_too_long : map (λ counts. nat_lt MAX_ROUND_POINTS (sum_by (λ n. n) counts)) ((65536 ∷ []) ∷ (65536 ∷ 1 ∷ []) ∷ []) ≡ false ∷ true ∷ []
+known_too_long = refl
+
+pub long_lines_rest : (lists : Bool) (gap : ℕ) (lines : List TrackedLine) → are_too_long lines ≡ true → round_acts lists gap lines ≡ no_acts
+long_lines_rest lists gap lines long = ap (λ (b : Bool). if b then no_acts else acts_on_lines lists gap lines) long

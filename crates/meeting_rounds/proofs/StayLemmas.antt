@@ -1,5 +1,5 @@
 -- Lines on whose meetings no round acts.
-use Rattle.std.proofs.Common.{◌≡◌, ℕ, Bool, true, false, not, List, [], ◌∷◌, map, refl, ap, ◌∙◌, sym, subst}
+use Rattle.std.proofs.Common.{◌≡◌, ℕ, Bool, true, false, not, if◌then◌else◌, List, [], ◌∷◌, map, refl, ap, ◌∙◌, sym, subst}
 use Rattle.std.specs.List.{list_all}
 use Rattle.design_model.proofs.ListLemmas.{false_true, first_true, second_true}
 use Rattle.design_model.specs.declared.point.Point.{Point}
@@ -11,7 +11,7 @@ use Rattle.line_sections.specs.Lines.{LineValue}
 use Rattle.meeting_rounds.specs.Acts.{PlacedLists, acts_next, acts_on_crossing, acts_on_kind, no_acts}
 use Rattle.meeting_rounds.specs.MovedPoints.{tracked_at}
 use Rattle.meeting_rounds.specs.RoundLaws.{LinesAtRestStay, UnworkedLinesAreDrawn, is_passed_over, unworked}
-use Rattle.meeting_rounds.specs.Rounds.{round_acts, settled_lines}
+use Rattle.meeting_rounds.specs.Rounds.{acts_on_lines, are_too_long, round_acts, settled_lines}
 use Rattle.meeting_rounds.specs.TrackedLines.{lines_as_worked, tracked_from, tracked_lines, tracked_points}
 use Rattle.meeting_rounds.specs.declared.acts.Acts.{Acts}
 use Rattle.meeting_rounds.specs.declared.rounds.TheConstants.{MAX_ROUNDS}
@@ -57,12 +57,18 @@ module _ (lists : Bool) (gap : ℕ) (placed : PlacedLists) (lines : List Tracked
       ap (λ (a : Acts). acts_next lists gap placed lines a rest) (kind_idle acts m m.kind (first_true _ _ idle))
       ∙ all_idle acts rest (second_true _ _ idle)
 
+-- Nothing is done either way.
+none_either : (b : Bool) (acts : Acts) → no_acts ≡ acts → no_acts ≡ (if b then no_acts else acts)
+none_either true acts none = refl
+none_either false acts none = none
+
 -- Lines on whose meetings no round acts stay.
 pub lines_stay : LinesAtRestStay
 unfolding settled_lines
 lines_stay = λ lists gap lines starts ends idle.
     let none : no_acts ≡ round_acts lists gap (tracked_lines lines) =
-    sym (all_idle lists gap (tracked_at (tracked_lines lines)) (tracked_lines lines) no_acts (meetings_of_lines gap (lines_as_worked (tracked_lines lines)))
+    none_either (are_too_long (tracked_lines lines)) (acts_on_lines lists gap (tracked_lines lines))
+    (sym (all_idle lists gap (tracked_at (tracked_lines lines)) (tracked_lines lines) no_acts (meetings_of_lines gap (lines_as_worked (tracked_lines lines)))
     (subst (λ (ls : List LineValue). list_all (λ m. is_passed_over lists m.kind) (meetings_of_lines gap ls) ≡ true)
-    (sym (lines_drawn lines)) idle)) in
+    (sym (lines_drawn lines)) idle))) in
     idle_stays MAX_ROUNDS lists gap (unworked lines starts ends) no_acts none refl

@@ -1,5 +1,5 @@
 ghost use Rattle.meeting_rounds.specs.FilledLines.{filled_lines, places_put};
-ghost use Rattle.meeting_rounds.specs.Rounds.{after_rounds, lines_after, round_acts, settled_lines, worked_by};
+ghost use Rattle.meeting_rounds.specs.Rounds.{acts_on_lines as acts_on_lines_of, after_rounds, are_too_long, lines_after, round_acts, settled_lines, worked_by};
 ghost use Rattle.meeting_rounds.specs.declared.rounds.TheConstants.{MAX_ROUND_GAP};
 ghost use Rattle.std.specs.Prelude.{◌≡◌, ◌≤◌, IfOk, map};
 
@@ -21,6 +21,9 @@ pub const MAX_ROUNDS: usize = 40;
 /// The greatest gap, in tenths of a millimetre.
 pub const MAX_ROUND_GAP: u16 = 60_000;
 
+/// The greatest number of points that lines list where they are worked on: as many as a drawing may have.
+pub const MAX_ROUND_POINTS: usize = 65_536;
+
 /// Lines that are worked on, with starts and ends.
 #[derive(Drop)]
 pub struct WorkedLines {
@@ -30,7 +33,8 @@ pub struct WorkedLines {
 }
 
 /// Returns lines, starts and ends after rounds in which all meetings are found and acted on, until nothing is
-/// done or the greatest number of rounds is reached. `gap` is in tenths of a millimetre.
+/// done, the lines list too many points, or the greatest number of rounds is reached. `gap` is in tenths of a
+/// millimetre.
 pub fn settled(
     alloc: Global,
     lists_crossings: bool,
@@ -72,7 +76,7 @@ fn after(
     Ok(worked)
 }
 
-/// Returns what is done on the meetings of a round.
+/// Returns what is done in a round.
 fn acts_of_round(
     alloc: Global,
     lists_crossings: bool,
@@ -81,6 +85,37 @@ fn acts_of_round(
 ) -> Result<Acts, Memory>
     requires { gap ≤ MAX_ROUND_GAP }
     ensures { IfOk result (λ acts. acts ≡ round_acts lists_crossings gap lines.now) }
+{
+    if are_too_long(lines) {
+        return Ok(Acts::new(alloc));
+    }
+    let acts = acts_on_lines(alloc, lists_crossings, gap, lines)?;
+    Ok(acts)
+}
+
+/// Returns whether lines list more points than a drawing may have.
+fn are_too_long(lines: &[TrackedLine]) -> bool
+    ensures { result ≡ are_too_long lines.now }
+{
+    let mut left = MAX_ROUND_POINTS;
+    for line in lines {
+        if left < line.points.len() {
+            return true;
+        }
+        left -= line.points.len();
+    }
+    false
+}
+
+/// Returns what is done on the meetings of lines in a round.
+fn acts_on_lines(
+    alloc: Global,
+    lists_crossings: bool,
+    gap: u16,
+    lines: &[TrackedLine],
+) -> Result<Acts, Memory>
+    requires { gap ≤ MAX_ROUND_GAP }
+    ensures { IfOk result (λ acts. acts ≡ acts_on_lines_of lists_crossings gap lines.now) }
 {
     let drawn = lines_of(alloc, lines)?;
     let meetings = find_meetings(alloc, drawn.as_slice(), gap)?;

@@ -8,7 +8,7 @@ use Rattle.meeting_rounds.specs.Acts.{PlacedLists, acts_next, no_acts}
 use Rattle.meeting_rounds.specs.MovedPoints.{tracked_at}
 use Rattle.meeting_rounds.specs.PlacedPoints.{points_at_spot}
 use Rattle.meeting_rounds.specs.TrackedLines.{lines_as_worked}
-use Rattle.meeting_rounds.proofs.rounds.acts_of_round.Goals as goal
+use Rattle.meeting_rounds.proofs.rounds.acts_on_lines.Goals as goal
 
 pub returns : goal.returns
 returns c =
