@@ -2,7 +2,7 @@ ghost use Rattle.drawing_comments.specs.CommentLaws.{AreTextComments};
 ghost use Rattle.drawing_comments.specs.CommentedTexts.{first_comment};
 ghost use Rattle.drawing_comments.specs.OrderedComments.{are_same_points, comment_if, comment_of_same, comments_of_sections, first_segments, is_same_line, ahead_after, ordered_comments, past_if, section_comments};
 ghost use Rattle.std.specs.List.{count_by};
-ghost use Rattle.std.specs.Prelude.{◌≡◌, ◌++◌, ◌∷◌, [], IfOk, OnOk};
+ghost use Rattle.std.specs.Prelude.{◌-◌, if◌then◌else◌, ◌≡◌, ◌++◌, ◌∷◌, [], IfOk, OnOk};
 
 use crate::moving::{Comments, all_copied, copied};
 use crate::text_comments::TextComments;
@@ -172,10 +172,13 @@ fn of_same(
 ) -> Result<Bytes, Memory>
     ensures { IfOk result (λ comment. comment ≡ comment_of_same line.now more lines.now comments.now) }
 {
+    let mut same = count_same(line, lines);
     let mut left = comments;
     let mut rest = lines;
     while let [other, after @ ..] = rest {
-        if is_same(line, other) && count_same(line, after) == more {
+        let here = is_same(line, other);
+        same = past_same(here, same);
+        if here && same == more {
             let comment = first_copied(alloc, left)?;
             return Ok(comment);
         }
@@ -183,6 +186,13 @@ fn of_same(
         rest = after;
     }
     Ok(Bytes::new(alloc))
+}
+
+/// Returns how many lines are the same after one that is or isn't.
+fn past_same(here: bool, same: usize) -> usize
+    ensures { result ≡ same - (if here then 1 else 0) }
+{
+    if here { same.saturating_sub(1) } else { same }
 }
 
 fn first_copied(alloc: Global, comments: &[Bytes]) -> Result<Bytes, Memory>
