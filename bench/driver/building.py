@@ -20,6 +20,11 @@ def build_stitch_drawing():
     subprocess.run([REPOSITORY / "build", "stitch_drawing"], check=True)
 
 
+def build_stitch_picture():
+    say("building stitch_picture; from nothing this takes some minutes")
+    subprocess.run([REPOSITORY / "build", "stitch_picture"], check=True)
+
+
 def build_plain(name):
     """Builds one of the programs of this folder with rustc alone."""
     say(f"building {name}")

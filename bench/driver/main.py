@@ -15,10 +15,11 @@ import matchings
 import measuring
 import routes
 import tables
+import worst
 from building import say
 from cases import FULL, SMALL, all_cases
 from distances import KINDS
-from places import BIN, STITCH, STITCH_DRAWING
+from places import BIN, STITCH, STITCH_DRAWING, STITCH_PICTURE
 
 
 def words():
@@ -26,6 +27,7 @@ def words():
     parser.add_argument("--sizes", choices=["full", "small"], default="full")
     parser.add_argument("--stitch", type=Path, help="a program built elsewhere")
     parser.add_argument("--drawing", type=Path, help="a stitch_drawing built elsewhere")
+    parser.add_argument("--picture", type=Path, help="a stitch_picture built elsewhere")
     parser.add_argument("--only", default="", metavar="WORD", help="cases whose name has this word")
     parser.add_argument("--check", action="store_true", help="counts instructions, and compares them with the tables")
     return parser.parse_args()
@@ -80,6 +82,23 @@ def measure_choices(asked):
     document.put(text, "choices")
 
 
+def measure_worst(asked):
+    """The table of all commands over the worst drawings."""
+    if not asked.drawing:
+        building.build_stitch_drawing()
+    if not asked.picture:
+        building.build_stitch_picture()
+    text = worst.report(
+        {
+            "stitch": program(asked.stitch),
+            "drawing": (asked.drawing or STITCH_DRAWING).resolve(),
+            "picture": (asked.picture or STITCH_PICTURE).resolve(),
+        }
+    )
+    print(text)
+    document.put(text, "worst")
+
+
 def measure_files(asked, sizes, cases):
     """The tables of the file commands, and whether some case differs."""
     stitch = program(asked.stitch)
@@ -113,6 +132,8 @@ def main():
         return checking.check(program(asked.stitch))
     if sizes is FULL and asked.only in ("", "choices"):
         measure_choices(asked)
+    if sizes is FULL and asked.only in ("", "worst"):
+        measure_worst(asked)
     cases = [case for case in all_cases(sizes) if asked.only in case.name]
     if cases and measure_files(asked, sizes, cases):
         return 1

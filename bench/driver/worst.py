@@ -1,0 +1,127 @@
+"""The worst drawings at the limits, and the seconds that each command takes over them."""
+
+import math
+import random
+
+import drawings
+from building import say
+from choices import meander, spiral
+from measuring import meter
+from places import INPUTS
+from tables import marked, table
+
+HIGHEST_SECONDS = 0.5
+ROUNDS = 3
+STEP = 121
+# The words after the program and the drawing. A command that writes a drawing writes `written.rw`.
+COMMANDS = {
+    "look": ("drawing", ["look", "worst.rw"]),
+    "look 10": ("drawing", ["look", "worst.rw", "10"]),
+    "snap": ("drawing", ["snap", "2", "worst.rw", "written.rw"]),
+    "cross": ("drawing", ["cross", "worst.rw", "written.rw"]),
+    "space": ("drawing", ["space", "worst.rw", "written.rw"]),
+    "free": ("drawing", ["free", "worst.rw", "written.rw"]),
+    "near": ("drawing", ["near", "worst.rw", "written.rw"]),
+    "picture": ("picture", ["worst.rw", "written.svg"]),
+    "route": ("stitch", ["route", "worst.rw", "written.dst", "written.cert"]),
+}
+
+
+def zigzag():
+    """65,472 points on the four corners of a square."""
+    corners = [(0, 0), (100, 0), (100, 100), (0, 100)]
+    return [[corners[i % 4] for i in range(64)] for _ in range(1_023)]
+
+
+def diagonals(width, height):
+    """26,000 segments beside each other, and as many back."""
+    points = []
+    for i in range(26_000):
+        points += [(i - 29_000, -3_000), (i - 29_000 + width, height - 3_000)]
+    return [points]
+
+
+def parallels():
+    """1,024 long lines, 3 tenths apart."""
+    return [[(3 * i, 0), (3 * i + 3_000, 5_000)] for i in range(drawings.LINES)]
+
+
+def weave():
+    """512 lines across 512 others."""
+    size = drawings.LINES // 2
+    across = [[(0, 10 * i), (10 * size, 10 * i)] for i in range(size)]
+    return across + [[(10 * i, -5), (10 * i, 10 * size + 1)] for i in range(size)]
+
+
+def tangle():
+    """1,024 long lines at random."""
+    chance = random.Random(5)
+    return [[(chance.randint(0, 3_000), chance.randint(0, 3_000)) for _ in range(2)] for _ in range(drawings.LINES)]
+
+
+def nested():
+    """1,024 lines on one line, each a tenth longer at both ends."""
+    return [[(-i, 0), (i, 0)] for i in range(1, drawings.LINES + 1)]
+
+
+def walks():
+    """1,024 random walks of 64 points, far from each other but now and then."""
+    chance = random.Random(6)
+    lines = []
+    for i in range(drawings.LINES):
+        x, y = 900 * (i % 32) - 14_000, 900 * (i // 32) - 14_000
+        points = [(x, y)]
+        while len(points) < 64:
+            x, y = x + chance.randint(-100, 100), y + chance.randint(-100, 100)
+            if (x, y) != points[-1]:
+                points.append((x, y))
+        lines.append(points)
+    return lines
+
+
+def star():
+    """1,024 strokes from one place."""
+    angles = [2 * math.pi * i / drawings.LINES for i in range(drawings.LINES)]
+    return [[(0, 0), (int(2_300 * math.cos(a)), int(2_300 * math.sin(a)))] for a in angles]
+
+
+def alike():
+    """One line 1,024 times."""
+    return [[(10 * i, i % 2) for i in range(64)] for _ in range(drawings.LINES)]
+
+
+def worst():
+    """The name, the version and the blocks of each drawing."""
+    square = [[(0, 0), (100, 0), (100, 100), (0, 100), (0, 0)]]
+    yield "a zigzag of 65,472 points on four places", 1, [zigzag()]
+    yield "52,000 segments beside each other, 6 across 1", 2, [diagonals(363, 60)]
+    yield "1,024 parallel diagonals", 2, [parallels()]
+    yield "a weave of 512 lines by 512", 2, [weave()]
+    yield "a tangle of 1,024 lines", 2, [tangle()]
+    yield "1,024 lines on one line", 2, [nested()]
+    yield "1,024 random walks", 2, [walks()]
+    yield "one line 1,024 times", 2, [alike()]
+    yield "255 squares on one place, a block each", 2, [square] * 255
+    yield "a star of 1,024 strokes", 2, [star()]
+    yield "a comb of 1,023 lines", 1, [drawings.comb(1_023)]
+    yield "a spiral of 65,536 points, a tenth apart", 2, [spiral()]
+    yield "a meander of 65,536 points, a tenth apart", 2, [meander(100, 3)]
+
+
+def seconds(program, words):
+    """The least processor seconds of some runs, with a mark where the drawing is refused."""
+    runs = [meter(program, words) for _ in range(ROUNDS)]
+    least = marked(min(run[1] for run in runs), HIGHEST_SECONDS)
+    return f"{least} r" if runs[0][0] else least
+
+
+def report(programs):
+    """The table of all commands over all drawings. Refused drawings have an r."""
+    INPUTS.mkdir(parents=True, exist_ok=True)
+    rows = []
+    for name, version, blocks in worst():
+        say(f"the worst drawings: {name}")
+        text = drawings.meeting_text(blocks, STEP).replace("redwork 3", f"redwork {version}", 1)
+        (INPUTS / "worst.rw").write_text(text)
+        rows.append([name] + [seconds(programs[which], words) for which, words in COMMANDS.values()])
+    return table(["Drawing", *COMMANDS], rows)
