@@ -16,8 +16,8 @@ use Rattle.design_picture.specs.declared.layout.TheConstants.{MARGIN, MIN_WIDTH,
 use Rattle.design_picture.specs.declared.links.TheConstants.{MAX_PASSES}
 use Rattle.design_picture.specs.declared.pen.TheConstants.{ARROW_GAP}
 use Rattle.design_picture.specs.declared.threads.TheConstants.{MIN_SHOWN}
-use Rattle.design_picture.specs.ArrowSquares.{square_at, square_number}
-use Rattle.design_picture.specs.Hoops.{fit_words, hoop_end, hoop_key, hoop_key_end, hoop_key_start, hoop_start, hoop_text, is_outside, offset_text, rim_of, too_large}
+use Rattle.design_picture.specs.ArrowSquares.{square_of_pass, square_number}
+use Rattle.design_picture.specs.Hoops.{fit_words, hoop_end, hoop_key, hoop_key_end, hoop_key_start, hoop_start, hoop_text, is_beyond_hoop, offset_text, rim_of, too_large}
 use Rattle.design_picture.specs.Layers.{layer_text}
 use Rattle.design_picture.specs.Layouts.{area_of}
 use Rattle.design_picture.specs.Passes.{passes_counted}
@@ -85,9 +85,9 @@ abbrev rim : Rim
 rim = record { corners = extent; across = 5; down = 1 }
 
 -- At each of the four sides the first point outside, and the first that is not.
-pub known_outside : (map (is_outside rim) (point (pos 14) (pos 0) ∷ point (pos 56) (pos 0) ∷ point (pos 30) (negsuc 19)
+pub known_outside : (map (is_beyond_hoop rim) (point (pos 14) (pos 0) ∷ point (pos 56) (pos 0) ∷ point (pos 30) (negsuc 19)
     ∷ point (pos 30) (pos 181) ∷ []) ≡ true ∷ true ∷ true ∷ true ∷ [])
-    × (map (is_outside rim) (point (pos 15) (pos 0) ∷ point (pos 55) (pos 0) ∷ point (pos 30) (negsuc 18) ∷ point (pos 30) (pos 180) ∷ [])
+    × (map (is_beyond_hoop rim) (point (pos 15) (pos 0) ∷ point (pos 55) (pos 0) ∷ point (pos 30) (negsuc 18) ∷ point (pos 30) (pos 180) ∷ [])
     ≡ false ∷ false ∷ false ∷ false ∷ [])
 known_outside = (refl, refl)
 
@@ -108,7 +108,7 @@ known_hoop_keys = (refl, refl, refl)
 
 -- Squares of 5 mm from -3,000 mm on: -3,000, -0.1, 0, 4.9 and 5 mm.
 pub known_squares : (map square_number (negsuc 29999 ∷ negsuc 0 ∷ pos 0 ∷ pos 49 ∷ pos 50 ∷ []) ≡ 0 ∷ 599 ∷ 600 ∷ 600 ∷ 601 ∷ [])
-    × (square_at (point (pos 49) (negsuc 0)) 2 ≡ record { column = 600; row = 599; pass = 2 })
+    × (square_of_pass (point (pos 49) (negsuc 0)) 2 ≡ record { column = 600; row = 599; pass = 2 })
 known_squares = (refl, refl)
 
 -- Satin of 6 mm: an arrow is due at each stitch from the second on. The second and the third end in squares of their own, the fourth

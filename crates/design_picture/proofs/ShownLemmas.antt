@@ -1,7 +1,7 @@
 -- The strokes of acts show the acts.
 use Rattle.std.proofs.Common.{◌≡◌, Bool, true, false, List, [], ◌∷◌, map, refl, if◌then◌else◌}
 use Rattle.std.proofs.Math.Path.{ap₂}
-use Rattle.design_picture.proofs.Names.{NumberedAct, acts_of, DesignValue, Pen, Stroke, first_pen, pen_after, SewnSoFar, nothing_sewn, sewn_after, stroke_of_act, strokes_from}
+use Rattle.design_picture.proofs.Names.{NumberedAct, acts_of, DesignValue, Pen, Stroke, first_pen, pen_after, SewnSoFar, none_passed, passes_after, stroke_of_act, strokes_from}
 use Rattle.design_model.specs.declared.act.Act.{Act}
 use Rattle.design_model.specs.declared.act.Act.TheVariants as act
 use Rattle.design_picture.specs.ShownActs.{StrokesShowActs, plain_act, shown_act}
@@ -22,7 +22,7 @@ all_shown : (d : DesignValue) (pen : Pen) (sewn : SewnSoFar) (acts : List Number
     → map shown_act (strokes_from d pen sewn acts) ≡ map (λ (a : NumberedAct). plain_act a.act) acts
 all_shown d pen sewn [] = refl
 all_shown d pen sewn (a ∷ rest) = ap₂ (λ (b : Act) (later : List Act). b ∷ later) (shows d pen sewn a.act)
-    (all_shown d (pen_after pen a.act) (sewn_after pen sewn a.act) rest)
+    (all_shown d (pen_after pen a.act) (passes_after pen sewn a.act) rest)
 
 pub strokes_shown : StrokesShowActs
-strokes_shown d = all_shown d first_pen nothing_sewn (acts_of d)
+strokes_shown d = all_shown d first_pen none_passed (acts_of d)

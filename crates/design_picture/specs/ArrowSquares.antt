@@ -12,8 +12,8 @@ abbrev pub square_number : ℤ → ℕ
 square_number coordinate = unsigned_abs (coordinate -ℤ negsuc 29999) / ARROW_SQUARE
 
 -- The square of a point, for a pass.
-abbrev pub square_at : Point → ℕ → ArrowSquare
-square_at p pass = record {
+abbrev pub square_of_pass : Point → ℕ → ArrowSquare
+square_of_pass p pass = record {
   column = square_number p.x;
   row = square_number p.y;
   pass = pass;

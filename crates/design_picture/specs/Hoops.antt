@@ -31,18 +31,18 @@ rim_of extent hoop = record {
 }
 
 -- Two coordinates are nearer to each other than a length.
-abbrev pub is_nearer : ℕ → ℤ → ℤ → Bool
-is_nearer length a b = nat_lt (unsigned_abs (a -ℤ b)) length
+abbrev pub are_nearer : ℕ → ℤ → ℤ → Bool
+are_nearer length a b = nat_lt (unsigned_abs (a -ℤ b)) length
 
 -- A point of the extent is on the rim, outside the hoop.
-abbrev pub is_outside : Rim → Point → Bool
-is_outside rim p = is_nearer rim.across p.x rim.corners.min.x
-    || (is_nearer rim.across rim.corners.max.x p.x
-    || (is_nearer rim.down p.y rim.corners.min.y || is_nearer rim.down rim.corners.max.y p.y))
+abbrev pub is_beyond_hoop : Rim → Point → Bool
+is_beyond_hoop rim p = are_nearer rim.across p.x rim.corners.min.x
+    || (are_nearer rim.across rim.corners.max.x p.x
+    || (are_nearer rim.down p.y rim.corners.min.y || are_nearer rim.down rim.corners.max.y p.y))
 
 -- A stitch that begins or ends outside the hoop, once more.
 abbrev pub outside_shape : Rim → SewnStitch → List ℕ
-outside_shape rim stitch = if is_outside rim stitch.from || is_outside rim stitch.at
+outside_shape rim stitch = if is_beyond_hoop rim stitch.from || is_beyond_hoop rim stitch.at
     then move_text stitch.from ++ sewn_text stitch else []
 
 -- The stitch of a stroke that begins or ends outside the hoop.

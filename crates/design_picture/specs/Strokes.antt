@@ -17,7 +17,7 @@ use Rattle.design_picture.specs.declared.strokes.BlockEnd.{BlockEnd}
 use Rattle.design_picture.specs.declared.strokes.SewnStitch.{SewnStitch}
 use Rattle.design_picture.specs.declared.strokes.Stroke.{Stroke}
 use Rattle.design_picture.specs.declared.strokes.Stroke.TheVariants.{Begin, Float, Sewn, Trim, Stop}
-use Rattle.design_picture.specs.ArrowSquares.{arrows_with, has_arrow, is_same_square, square_at}
+use Rattle.design_picture.specs.ArrowSquares.{arrows_with, has_arrow, is_same_square, square_of_pass}
 use Rattle.design_picture.specs.Passes.{earlier_passes, is_same_stitch, passes_with}
 use Rattle.design_picture.specs.Pens.{first_pen, pen_after}
 
@@ -34,8 +34,8 @@ sewn_by sewn = record {
 }
 
 -- Nothing was sewn so far.
-abbrev pub nothing_sewn : SewnSoFar
-nothing_sewn = record { passes = λ stitch. None; arrows = λ square. false }
+abbrev pub none_passed : SewnSoFar
+none_passed = record { passes = λ stitch. None; arrows = λ square. false }
 
 -- The end of the block that a pen is in.
 abbrev pub block_end : DesignValue → Pen → BlockEnd
@@ -63,7 +63,7 @@ pass_to pen sewn p = earlier_passes sewn.passes (stitch_to pen p)
 abbrev pub sewn_stitch : Pen → SewnSoFar → Point → SewnStitch
 sewn_stitch pen sewn p = record {
   pass = pass_to pen sewn p;
-  arrow = has_arrow pen sewn.arrows (square_at p (pass_to pen sewn p));
+  arrow = has_arrow pen sewn.arrows (square_of_pass p (pass_to pen sewn p));
   from = pen.place;
   at = p;
 }
@@ -85,7 +85,7 @@ needle_stroke pen sewn float p =
 abbrev pub stitch_added : Pen → SewnSoFar → Point → SewnSoFar
 stitch_added pen sewn p = record {
   passes = passes_with sewn.passes (stitch_to pen p);
-  arrows = arrows_with pen sewn.arrows (square_at p (pass_to pen sewn p));
+  arrows = arrows_with pen sewn.arrows (square_of_pass p (pass_to pen sewn p));
 }
 
 -- What was sewn after a needle.
@@ -100,20 +100,20 @@ stroke_of_act d pen sewn act.Trim = Trim pen.place
 stroke_of_act d pen sewn act.Stop = stop_stroke d pen
 
 -- What was sewn after an act.
-abbrev pub sewn_after : Pen → SewnSoFar → Act → SewnSoFar
-sewn_after pen sewn (act.Needle p float) = needle_added pen sewn float p
-sewn_after pen sewn act.Trim = sewn
-sewn_after pen sewn act.Stop = sewn
+abbrev pub passes_after : Pen → SewnSoFar → Act → SewnSoFar
+passes_after pen sewn (act.Needle p float) = needle_added pen sewn float p
+passes_after pen sewn act.Trim = sewn
+passes_after pen sewn act.Stop = sewn
 
 -- The strokes of acts in order.
 abbrev pub strokes_from : DesignValue → Pen → SewnSoFar → List NumberedAct → List Stroke
 strokes_from d pen sewn [] = []
 strokes_from d pen sewn (a ∷ rest) = stroke_of_act d pen sewn a.act
-    ∷ strokes_from d (pen_after pen a.act) (sewn_after pen sewn a.act) rest
+    ∷ strokes_from d (pen_after pen a.act) (passes_after pen sewn a.act) rest
 
 -- The strokes of a design.
 abbrev pub strokes_of : DesignValue → List Stroke
-strokes_of d = strokes_from d first_pen nothing_sewn (acts_of d)
+strokes_of d = strokes_from d first_pen none_passed (acts_of d)
 
 -- The pen after acts.
 abbrev pub pen_along : Pen → List NumberedAct → Pen

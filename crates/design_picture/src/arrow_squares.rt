@@ -1,4 +1,4 @@
-ghost use Rattle.design_picture.specs.ArrowSquares.{arrows_with, has_arrow, is_arrow_due, is_same_square, square_at as square_of_pass, square_number};
+ghost use Rattle.design_picture.specs.ArrowSquares.{arrows_with, has_arrow, is_arrow_due, is_same_square, square_of_pass, square_number};
 ghost use Rattle.std.specs.HashSet.{contains};
 ghost use Rattle.std.specs.Prelude.{◌≡◌, IfOk, OnOk};
 

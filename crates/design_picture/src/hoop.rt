@@ -1,4 +1,4 @@
-ghost use Rattle.design_picture.specs.Hoops.{fit_words, hoop_as_fits, hoop_class, hoop_end, hoop_key, hoop_key_end, hoop_key_start, hoop_start, hoop_text, is_nearer as are_nearer, is_outside as is_on_rim, left_out, offset_text, outside_shape, outside_text, rim_of, too_large};
+ghost use Rattle.design_picture.specs.Hoops.{fit_words, hoop_as_fits, hoop_class, hoop_end, hoop_key, hoop_key_end, hoop_key_start, hoop_start, hoop_text, are_nearer, is_beyond_hoop, left_out, offset_text, outside_shape, outside_text, rim_of, too_large};
 ghost use Rattle.std.specs.Prelude.{◌≡◌, ◌++◌, ◌<◌, ◌^◌, OnOk};
 
 use crate::block_line::LINE_HEIGHT;
@@ -63,7 +63,7 @@ fn put_outside_shape(text: &mut Bytes, rim: Rim, stitch: SewnStitch) -> Result<(
 }
 
 fn is_outside(rim: Rim, at: Point) -> bool
-    ensures { result ≡ is_on_rim rim at }
+    ensures { result ≡ is_beyond_hoop rim at }
 {
     is_nearer(rim.across, at.x, rim.corners.min.x)
         || (is_nearer(rim.across, rim.corners.max.x, at.x)

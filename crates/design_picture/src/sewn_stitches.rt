@@ -1,4 +1,4 @@
-ghost use Rattle.design_picture.specs.Strokes.{nothing_sewn, sewn_by, sewn_stitch, stitch_added};
+ghost use Rattle.design_picture.specs.Strokes.{none_passed, sewn_by, sewn_stitch, stitch_added};
 ghost use Rattle.std.specs.Prelude.{◌≡◌, IfOk, OnOk};
 
 use crate::arrow_squares::{ArrowSquare, put_arrow_square};
@@ -18,7 +18,7 @@ pub struct SewnStitches {
 
 impl SewnStitches {
     pub(crate) fn new(alloc: Global) -> SewnStitches
-        ensures { sewn_by result ≡ nothing_sewn }
+        ensures { sewn_by result ≡ none_passed }
     {
         SewnStitches {
             passes: HashMap::new(alloc),

@@ -3,7 +3,7 @@ ghost use Rattle.design_model.specs.Commands.{is_command_in_range};
 ghost use Rattle.design_model.specs.declared.act.NumberedAct.{NumberedAct as NumberedActValue};
 ghost use Rattle.design_model.specs.declared.design.TheConstants.{MAX_COMMANDS};
 ghost use Rattle.design_picture.specs.Pens.{HasCounted, first_pen, pen_after};
-ghost use Rattle.design_picture.specs.Strokes.{block_end, needle_added, needle_stroke, nothing_sewn, pen_along, pen_of, sewn_after, sewn_by, stop_stroke, stroke_of_act, strokes_from, strokes_of};
+ghost use Rattle.design_picture.specs.Strokes.{block_end, needle_added, needle_stroke, none_passed, pen_along, pen_of, passes_after, sewn_by, stop_stroke, stroke_of_act, strokes_from, strokes_of};
 ghost use Rattle.std.specs.List.{list_all};
 ghost use Rattle.std.specs.Prelude.{◌≡◌, ◌≤◌, ◌<◌, ◌+◌, ◌^◌, ◌∷◌, ◌++◌, ℕ, List, IfOk, IsTrue, OnOk, length};
 
@@ -78,7 +78,7 @@ fn put_along(
     requires count { length commands.now ≤ MAX_COMMANDS }
     requires in_range { IsTrue (list_all is_command_in_range commands.now) }
     ensures strokes { OnOk result (strokes.new ≡ strokes.old
-        ++ strokes_from design.now first_pen nothing_sewn (acts_along commands.now)) }
+        ++ strokes_from design.now first_pen none_passed (acts_along commands.now)) }
     ensures pen { IfOk result (λ pen. pen ≡ pen_along first_pen (acts_along commands.now)) }
     ensures counted { IfOk result (HasCounted MAX_COMMANDS) }
 {
@@ -120,7 +120,7 @@ fn shown(sewn: &mut SewnStitches, design: &Design, pen: Pen, act: Act) -> Result
     requires stops { pen.stops + 1 < 2 ^ 32 }
     ensures value { IfOk result (λ stroke. stroke
         ≡ stroke_of_act design.now pen (sewn_by sewn.old) act) }
-    ensures sewn { OnOk result (sewn_by sewn.new ≡ sewn_after pen (sewn_by sewn.old) act) }
+    ensures sewn { OnOk result (sewn_by sewn.new ≡ passes_after pen (sewn_by sewn.old) act) }
 {
     match act {
         Act::Needle { at, float } => needle(sewn, pen, float, at),

@@ -7,43 +7,43 @@ use Rattle.text_parts.specs.Parts.{parts_between}
 use Rattle.drawing_comments.specs.declared.text_comments.TextComments.{TextComments}
 
 -- The first byte of a line that isn't a blank, if there is one.
-abbrev pub first_mark : List ℕ → Option ℕ
-first_mark [] = None
-first_mark (b ∷ rest) = if is_blank_byte b then first_mark rest else Some b
+abbrev pub mark_of : List ℕ → Option ℕ
+mark_of [] = None
+mark_of (b ∷ rest) = if is_blank_byte b then mark_of rest else Some b
 
 -- A comment line, as it is written: without a return, and with the end of the line.
 abbrev pub comment_line : List ℕ → List ℕ
 comment_line line = line_without_return line ++ 10 ∷ []
 
 -- Comments with one more comment line, which is kept until it is known where it belongs.
-abbrev pub with_comment : TextComments → List ℕ → TextComments
-with_comment c line = record c { last = c.last ++ comment_line line }
+abbrev pub comment_found : TextComments → List ℕ → TextComments
+comment_found c line = record c { last = c.last ++ comment_line line }
 
 -- Comments after a line that opens a block: those that were kept are before it.
-abbrev pub with_block : TextComments → TextComments
-with_block c = record c { blocks = c.blocks ++ c.last ∷ []; last = [] }
+abbrev pub block_found : TextComments → TextComments
+block_found c = record c { blocks = c.blocks ++ c.last ∷ []; last = [] }
 
 -- Comments after a line of points: those that were kept are before it.
-abbrev pub with_line : TextComments → TextComments
-with_line c = record c { lines = c.lines ++ c.last ∷ []; last = [] }
+abbrev pub line_found : TextComments → TextComments
+line_found c = record c { lines = c.lines ++ c.last ∷ []; last = [] }
 
 -- Comments after another line: those that were kept are at the top if no block is open yet, and
 -- else are kept.
-abbrev pub with_other : TextComments → TextComments
-with_other c = if length c.blocks == 0 then record c { top = c.top ++ c.last; last = [] } else c
+abbrev pub other_found : TextComments → TextComments
+other_found c = if length c.blocks == 0 then record c { top = c.top ++ c.last; last = [] } else c
 
 -- Comments after a line with the given first byte.
 abbrev pub comments_by_mark : TextComments → List ℕ → Option ℕ → TextComments
 comments_by_mark c line None = c
 comments_by_mark c line (Some mark) =
-    if mark == 35 then with_comment c line
-    else if mark == 99 then with_block c
-    else if mark == 108 then with_line c
-    else with_other c
+    if mark == 35 then comment_found c line
+    else if mark == 99 then block_found c
+    else if mark == 108 then line_found c
+    else other_found c
 
 -- Comments after one more line.
 abbrev pub comments_after : TextComments → List ℕ → TextComments
-comments_after c line = comments_by_mark c line (first_mark line)
+comments_after c line = comments_by_mark c line (mark_of line)
 
 -- Comments after lines in order.
 abbrev pub comments_from : TextComments → List (List ℕ) → TextComments
@@ -88,8 +88,8 @@ comments_left c mark = record c {
 abbrev pub lines_with : TextComments → List (List ℕ) → List ℕ
 lines_with c [] = []
 lines_with c (line ∷ []) = c.last ++ line
-lines_with c (line ∷ next ∷ rest) = comments_by c (first_mark line)
-    ++ (line ++ 10 ∷ lines_with (comments_left c (first_mark line)) (next ∷ rest))
+lines_with c (line ∷ next ∷ rest) = comments_by c (mark_of line)
+    ++ (line ++ 10 ∷ lines_with (comments_left c (mark_of line)) (next ∷ rest))
 
 -- A text with comments: those at its top, and then its lines, each after its comments.
 abbrev pub with_comments : TextComments → List ℕ → List ℕ

@@ -1,5 +1,5 @@
 ghost use Rattle.drawing_comments.specs.CommentLaws.{AreTextComments};
-ghost use Rattle.drawing_comments.specs.CommentedTexts.{comment_line, comments_after, comments_by_mark, comments_of, no_comments, with_block as block_found, with_comment as comment_found, with_line as line_found, with_other as other_found};
+ghost use Rattle.drawing_comments.specs.CommentedTexts.{comment_line, comments_after, comments_by_mark, comments_of, no_comments, block_found, comment_found, line_found, other_found};
 ghost use Rattle.drawing_text.specs.Words.{line_without_return};
 ghost use Rattle.std.specs.Prelude.{◌≡◌, ◌++◌, IfOk, OnOk, Some};
 

@@ -1,4 +1,4 @@
-ghost use Rattle.drawing_comments.specs.CommentedTexts.{first_mark as mark_of};
+ghost use Rattle.drawing_comments.specs.CommentedTexts.{mark_of};
 ghost use Rattle.drawing_text.specs.Words.{is_blank_byte};
 ghost use Rattle.std.specs.Prelude.{◌≡◌};
 

@@ -100,14 +100,14 @@ half_steps_count : (p : Point) (rest : List Point) → length (half_steps_from p
 half_steps_count p [] = refl
 half_steps_count p (q ∷ rest) = omega (arith, half_steps_count q rest)
 
-line_count : (points : List Point) (cost : ℕ) → length points ≡ cost + 1 → length (half_steps points) ≡ 2 * cost + 1
-line_count [] cost is = absurd (omega (arith, is))
-line_count (p ∷ rest) cost is = omega (arith, half_steps_count p rest, is)
+line_count_of : (points : List Point) (cost : ℕ) → length points ≡ cost + 1 → length (half_steps points) ≡ 2 * cost + 1
+line_count_of [] cost is = absurd (omega (arith, is))
+line_count_of (p ∷ rest) cost is = omega (arith, half_steps_count p rest, is)
 
 pub bands_show : ((d : DrawingValue) → NeedlesLeadAlong d) → BandsShowLoads
 bands_show needles d cuts line e keeps there few =
     let count : length (half_steps_of_line d line) ≡ 2 * cost_of_line d line + 1 =
-    line_count (needles_of_line d line) (cost_of_line d line) (needles d line keeps there).count in
+    line_count_of (needles_of_line d line) (cost_of_line d line) (needles d line keeps there).count in
     let is = shows 0 cuts e (half_steps_of_line d line) (reverse (half_steps_of_line d line)) (omega (arith, few, count))
     (omega (arith, few, count, length-reverse (half_steps_of_line d line))) in
     record { each = is.each; weights = is.weights; load = is.load; room = omega (arith, is.load, few) }

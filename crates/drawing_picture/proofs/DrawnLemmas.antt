@@ -4,7 +4,7 @@ use Rattle.drawing_picture.proofs.Names.{JunctionMark, marks_of_pieces, Piece, D
 use Rattle.drawing_picture.specs.declared.drawn_picture.TheConstants.{MEETING_GAP}
 use Rattle.drawing_picture.specs.declared.labels.Label.{Label}
 use Rattle.drawing_picture.specs.DrawingPictures.{IsDrawingPicture, labelled_on_sides, picture_of_pieces}
-use Rattle.drawing_picture.specs.Labels.{labels_of}
+use Rattle.drawing_picture.specs.Labels.{labels_of_all}
 use Rattle.line_meetings.specs.declared.meeting.Meeting.{Meeting}
 use Rattle.line_meetings.specs.Meetings.{meetings_of_lines}
 use Rattle.drawing_picture.proofs.CertificateLemmas.{graphs_are}
@@ -15,7 +15,7 @@ counted (p ∷ pieces) = ap (λ (n : ℕ). suc n) (counted pieces)
 
 pub picture_is : (d : DrawingValue) (lines : List LineValue) (pieces : List Piece) (marks : List JunctionMark) (meetings : List Meeting)
     (labels : List Label) (text : List ℕ) → ArePiecesOf d pieces → marks ≡ marks_of_pieces (map graph_of pieces)
-    → meetings ≡ meetings_of_lines MEETING_GAP lines → labels ≡ labels_of (map graph_of pieces) lines
+    → meetings ≡ meetings_of_lines MEETING_GAP lines → labels ≡ labels_of_all (map graph_of pieces) lines
     → text ≡ labelled_on_sides d (length lines) (length pieces) marks meetings labels → IsDrawingPicture d lines text
 picture_is d lines pieces marks meetings labels text are marks_are meetings_are labels_are is = record {
   pieces = lines_of_pieces pieces;

@@ -8,8 +8,8 @@ use Rattle.drawing_picture.specs.declared.labels.HalfPoint.{HalfPoint}
 use Rattle.drawing_picture.specs.declared.labels.Label.{Label}
 use Rattle.drawing_picture.specs.declared.place_marks.PlaceMark.TheVariants as place
 use Rattle.drawing_picture.specs.DrawingCaptions.{after_threads, grid_words, labels_words, more_blocks, shown_blocks}
-use Rattle.drawing_picture.specs.Grids.{coordinate_text, grid_of, grid_step, line_count}
-use Rattle.drawing_picture.specs.Labels.{label_row, labels_of, labels_on, line_middle}
+use Rattle.drawing_picture.specs.Grids.{coordinate_text, grid_around_extent, grid_step, line_count_of}
+use Rattle.drawing_picture.specs.Labels.{label_row, labels_of_all, labels_of_side, middle_of_line}
 use Rattle.drawing_picture.specs.PlaceMarks.{count_of_mark, mark_number, mark_of_kind, place_shape, place_text, stretch_shape}
 use Rattle.line_meetings.specs.declared.meeting.Meeting.{Meeting}
 use Rattle.line_meetings.specs.declared.meeting.MeetingKind.{MeetingKind}
@@ -22,11 +22,11 @@ pub known_steps : map grid_step (0 ∷ 3400 ∷ 3401 ∷ 17000 ∷ 17001 ∷ 340
 known_steps = refl
 
 -- The edges enclose the points, on either side of the origin: from -0.5 to 9.5 mm across, and from 0 to 11 mm down.
-pub known_grid : grid_of (record { min = point (negsuc 4) (pos 0); max = point (pos 95) (pos 110) })
+pub known_grid : grid_around_extent (record { min = point (negsuc 4) (pos 0); max = point (pos 95) (pos 110) })
     ≡ record { step = 100; left = 29900; right = 30100; top = 30000; bottom = 30200 }
 known_grid = refl
 
-pub known_line_counts : (line_count 100 29900 30100 ≡ 3) × (line_count 500 30000 30000 ≡ 1)
+pub known_line_counts : (line_count_of 100 29900 30100 ≡ 3) × (line_count_of 500 30000 30000 ≡ 1)
 known_line_counts = (refl, refl)
 
 pub known_coordinates : map coordinate_text (29900 ∷ 30000 ∷ 30500 ∷ 0 ∷ [])
@@ -88,12 +88,12 @@ abbrev half : ℕ → HalfPoint
 half x = record { x = 60000 + x; y = 60000 }
 
 -- The middle of the only segment, of the second of two, of the second of three, and a single point.
-pub known_middles : map line_middle ((at 0 ∷ at 7 ∷ []) ∷ (at 0 ∷ at 4 ∷ at 10 ∷ []) ∷ (at 0 ∷ at 1 ∷ at 5 ∷ at 50 ∷ []) ∷ (at 9 ∷ []) ∷ [])
+pub known_middles : map middle_of_line ((at 0 ∷ at 7 ∷ []) ∷ (at 0 ∷ at 4 ∷ at 10 ∷ []) ∷ (at 0 ∷ at 1 ∷ at 5 ∷ at 50 ∷ []) ∷ (at 9 ∷ []) ∷ [])
     ≡ half 7 ∷ half 14 ∷ half 6 ∷ half 18 ∷ []
 known_middles = refl
 
 -- 64 lines have labels, and 65 don't.
-pub known_limits : map (λ (n : ℕ). length (labels_of [] (replicate n (record { block = 0; points = at 0 ∷ at 4 ∷ [] })))) (64 ∷ 65 ∷ [])
+pub known_limits : map (λ (n : ℕ). length (labels_of_all [] (replicate n (record { block = 0; points = at 0 ∷ at 4 ∷ [] })))) (64 ∷ 65 ∷ [])
     ≡ 64 ∷ 0 ∷ []
 known_limits = refl
 
@@ -111,7 +111,7 @@ abbrev grid : Grid
 grid = record { step = 100; left = 30000; right = 30100; top = 30000; bottom = 30100 }
 
 -- On the left the lesser x comes first in a row, on the right the greater one. What is at the middle, 5 mm, is right of it.
-pub known_orders : (numbers (labels_on side.Left grid labels) ≡ 3 ∷ 1 ∷ 5 ∷ []) × (numbers (labels_on side.Right grid labels) ≡ 2 ∷ 4 ∷ [])
+pub known_orders : (numbers (labels_of_side side.Left grid labels) ≡ 3 ∷ 1 ∷ 5 ∷ []) × (numbers (labels_of_side side.Right grid labels) ≡ 2 ∷ 4 ∷ [])
 known_orders = (refl, refl)
 
 -- A row is at what it names, unless that is taken or others need it.

@@ -16,9 +16,9 @@ use Rattle.drawing_picture.specs.declared.junction_marks.JunctionMark.{JunctionM
 use Rattle.drawing_picture.specs.declared.label_order.Side.TheVariants as side
 use Rattle.drawing_picture.specs.declared.labels.Label.{Label}
 use Rattle.drawing_picture.specs.DrawingCaptions.{counts_text, drawing_words, grid_words, junction_dot, labels_words, legend_of, mark_keys, places_text, shown_blocks, spot_mark}
-use Rattle.drawing_picture.specs.Grids.{grid_of, grid_text}
+use Rattle.drawing_picture.specs.Grids.{grid_around_extent, grid_text}
 use Rattle.drawing_picture.specs.JunctionMarks.{marks_of_pieces, odd_marks}
-use Rattle.drawing_picture.specs.Labels.{labels_of, labels_on, labels_text}
+use Rattle.drawing_picture.specs.Labels.{labels_of_all, labels_of_side, labels_text}
 use Rattle.drawing_picture.specs.LinePaths.{line_paths}
 use Rattle.drawing_picture.specs.PlaceMarks.{meeting_mark}
 use Rattle.line_graph.specs.Drawings.{DrawingValue}
@@ -35,20 +35,20 @@ abbrev pub drawn_extent : DrawingValue → Option Extent
 drawn_extent d = extent_of_points (points_of_lines d.lines)
 
 -- The grid of a drawing.
-abbrev pub drawing_grid : DrawingValue → Grid
-drawing_grid d = grid_of (corners (drawn_extent d))
+abbrev pub grid_of_drawing : DrawingValue → Grid
+grid_of_drawing d = grid_around_extent (corners (drawn_extent d))
 
 -- The point whose coordinates count from the least one that a needle reaches.
-abbrev pub counted_point : (x y : ℕ) → Point
-counted_point x y = record { x = pos x -ℤ pos 30000; y = pos y -ℤ pos 30000 }
+abbrev pub counted_point_of : (x y : ℕ) → Point
+counted_point_of x y = record { x = pos x -ℤ pos 30000; y = pos y -ℤ pos 30000 }
 
 -- The area of a grid, with so many labels at most on a side, never more than 128, and a legend of
 -- so many blocks.
-abbrev pub drawing_area : Grid → (labels blocks : ℕ) → Area
-drawing_area g labels blocks = record {
+abbrev pub area_of_grid : Grid → (labels blocks : ℕ) → Area
+area_of_grid g labels blocks = record {
   corners = record {
-    min = counted_point g.left g.top;
-    max = counted_point g.right (max g.bottom (g.top + LABEL_HEIGHT * min labels 128));
+    min = counted_point_of g.left g.top;
+    max = counted_point_of g.right (max g.bottom (g.top + LABEL_HEIGHT * min labels 128));
   };
   side = SIDE_SPACE;
   above = UPPER_SPACE;
@@ -80,15 +80,15 @@ drawing_below d area step drawn pieces marks meetings =
 unfoldable pub drawing_with : DrawingValue → Area → (drawn pieces : ℕ) → List JunctionMark
     → List Meeting → (left right : List Label) → List ℕ
 drawing_with d area drawn pieces marks meetings left right = drawing_top d area
-    ++ (grid_text (drawing_grid d) ++ (line_paths d.threads d.lines
-    ++ (labels_text (drawing_grid d) left right ++ (drawing_marks d marks meetings
-    ++ (drawing_below d area (drawing_grid d).step drawn pieces marks meetings ++ foot_text)))))
+    ++ (grid_text (grid_of_drawing d) ++ (line_paths d.threads d.lines
+    ++ (labels_text (grid_of_drawing d) left right ++ (drawing_marks d marks meetings
+    ++ (drawing_below d area (grid_of_drawing d).step drawn pieces marks meetings ++ foot_text)))))
 
 -- The picture of a drawing with labels on both sides of its grid.
 abbrev pub drawing_labelled : DrawingValue → (drawn pieces : ℕ) → List JunctionMark → List Meeting
     → (left right : List Label) → List ℕ
 drawing_labelled d drawn pieces marks meetings left right = drawing_with d
-    (drawing_area (drawing_grid d) (max (length left) (length right)) (length d.threads))
+    (area_of_grid (grid_of_drawing d) (max (length left) (length right)) (length d.threads))
     drawn pieces marks meetings left right
 
 -- The picture of a drawing with labels.
@@ -96,12 +96,12 @@ abbrev pub labelled_on_sides : DrawingValue → (drawn pieces : ℕ) → List Ju
     → List Meeting → List Label → List ℕ
 labelled_on_sides d drawn pieces marks meetings labels =
     drawing_labelled d drawn pieces marks meetings
-    (labels_on side.Left (drawing_grid d) labels) (labels_on side.Right (drawing_grid d) labels)
+    (labels_of_side side.Left (grid_of_drawing d) labels) (labels_of_side side.Right (grid_of_drawing d) labels)
 
 -- The picture of a drawing that has those pieces, whose lines are drawn like that.
 abbrev pub picture_of_pieces : DrawingValue → List PieceValue → List LineValue → List ℕ
 picture_of_pieces d pieces lines = labelled_on_sides d (length lines) (length pieces)
-    (marks_of_pieces pieces) (meetings_of_lines MEETING_GAP lines) (labels_of pieces lines)
+    (marks_of_pieces pieces) (meetings_of_lines MEETING_GAP lines) (labels_of_all pieces lines)
 
 -- The text is the picture of a drawing, whose lines are drawn like that.
 pub record IsDrawingPicture (d : DrawingValue) (lines : List LineValue) (text : List ℕ)

@@ -19,36 +19,36 @@ grid_step reach = if nat_le reach 3400 then 100
     else (if nat_le reach 17000 then 500 else (if nat_le reach 34000 then 1000 else 5000))
 
 -- The greatest multiple of a step that isn't above a number.
-abbrev pub rounded_down : ℕ → ℕ → ℕ
-rounded_down step n = n - n % step
+abbrev pub rounded_down_to : ℕ → ℕ → ℕ
+rounded_down_to step n = n - n % step
 
 -- The least multiple of a step that isn't below a number.
-abbrev pub rounded_up : ℕ → ℕ → ℕ
-rounded_up step n = rounded_down step (n + (step - 1))
+abbrev pub rounded_up_to : ℕ → ℕ → ℕ
+rounded_up_to step n = rounded_down_to step (n + (step - 1))
 
 -- The grid of a step whose edges enclose coordinates.
-abbrev pub grid_around : ℕ → (left right top bottom : ℕ) → Grid
-grid_around step left right top bottom = record {
+abbrev pub grid_enclosing : ℕ → (left right top bottom : ℕ) → Grid
+grid_enclosing step left right top bottom = record {
   step = step;
-  left = rounded_down step left;
-  right = rounded_up step right;
-  top = rounded_down step top;
-  bottom = rounded_up step bottom;
+  left = rounded_down_to step left;
+  right = rounded_up_to step right;
+  top = rounded_down_to step top;
+  bottom = rounded_up_to step bottom;
 }
 
 -- The grid of coordinates.
 abbrev pub grid_between : (left right top bottom : ℕ) → Grid
 grid_between left right top bottom =
-    grid_around (grid_step ((right - left) + (bottom - top))) left right top bottom
+    grid_enclosing (grid_step ((right - left) + (bottom - top))) left right top bottom
 
 -- The grid of an extent.
-abbrev pub grid_of : Extent → Grid
-grid_of extent = grid_between (grid_coordinate extent.min.x) (grid_coordinate extent.max.x)
+abbrev pub grid_around_extent : Extent → Grid
+grid_around_extent extent = grid_between (grid_coordinate extent.min.x) (grid_coordinate extent.max.x)
     (grid_coordinate extent.min.y) (grid_coordinate extent.max.y)
 
 -- The number of lines of a step from one coordinate to another.
-abbrev pub line_count : (step from to : ℕ) → ℕ
-line_count step from to = (to - from) / step + 1
+abbrev pub line_count_of : (step from to : ℕ) → ℕ
+line_count_of step from to = (to - from) / step + 1
 
 -- The coordinate of a line, as a drawing has it.
 abbrev pub coordinate_text : ℕ → List ℕ
@@ -89,6 +89,6 @@ grid_start = filled (codes "<g transform='translate(-30000,-30000)' fill='none' 
 
 -- The grid with its columns, its rows and their coordinates.
 abbrev pub grid_text : Grid → List ℕ
-grid_text g = grid_start ++ (grid_lines axis.Column g g.left (line_count g.step g.left g.right)
-    ++ (grid_lines axis.Row g g.top (line_count g.step g.top g.bottom)
+grid_text g = grid_start ++ (grid_lines axis.Column g g.left (line_count_of g.step g.left g.right)
+    ++ (grid_lines axis.Row g g.top (line_count_of g.step g.top g.bottom)
     ++ group_end))

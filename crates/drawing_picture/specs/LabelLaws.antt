@@ -5,7 +5,7 @@ use Rattle.drawing_picture.specs.declared.grid.Grid.{Grid}
 use Rattle.drawing_picture.specs.declared.label_order.Side.TheVariants as side
 use Rattle.drawing_picture.specs.declared.labels.Label.{Label}
 use Rattle.drawing_picture.specs.declared.labels.TheConstants.{LABEL_SPACE}
-use Rattle.drawing_picture.specs.Labels.{PlacedLabel, labels_on, placed_labels}
+use Rattle.drawing_picture.specs.Labels.{PlacedLabel, labels_of_side, placed_labels}
 
 -- How many labels pass a test.
 abbrev pub passing : (Label → Bool) → List Label → ℕ
@@ -25,7 +25,7 @@ pub record StandApart (bottom least : ℕ) (labels : List Label) : Type 0 where
 -- one side, once.
 abbrev pub SidesHaveLabels : Type 0
 SidesHaveLabels = (g : Grid) (labels : List Label) (test : Label → Bool)
-    → passing test (labels_on side.Left g labels) + passing test (labels_on side.Right g labels)
+    → passing test (labels_of_side side.Left g labels) + passing test (labels_of_side side.Right g labels)
     ≡ passing test labels
 
 -- Labels stand apart.

@@ -11,13 +11,13 @@ use Rattle.line_meetings.specs.declared.meeting.MeetingKind.TheVariants as meeti
 use Rattle.picture_parts.specs.Parts.{filled, point_text}
 
 -- The mark of a point that nearly meets a line: an end of its line, or a point inside.
-abbrev pub near_mark : Bool → PlaceMark
-near_mark is_end = if is_end then place.LooseEnd else place.NearPoint
+abbrev pub near_mark_of : Bool → PlaceMark
+near_mark_of is_end = if is_end then place.LooseEnd else place.NearPoint
 
 -- The mark of a meeting of a kind, whose point may be an end of its line.
 abbrev pub mark_of_kind : MeetingKind → Bool → PlaceMark
-mark_of_kind meeting.ClosePoints is_end = near_mark is_end
-mark_of_kind meeting.BesideSegment is_end = near_mark is_end
+mark_of_kind meeting.ClosePoints is_end = near_mark_of is_end
+mark_of_kind meeting.BesideSegment is_end = near_mark_of is_end
 mark_of_kind meeting.OnSegment is_end = place.Unlisted
 mark_of_kind meeting.Crossing is_end = place.Crossing
 mark_of_kind meeting.Overlap is_end = place.Overlap

@@ -1,4 +1,4 @@
-ghost use Rattle.drawing_picture.specs.DrawingPictures.{IsDrawingPicture, counted_point as counted_point_of, drawing_area as area_of_grid, drawing_below, drawing_grid as grid_of_drawing, drawing_labelled, drawing_marks, drawing_top, drawing_with, labelled_on_sides};
+ghost use Rattle.drawing_picture.specs.DrawingPictures.{IsDrawingPicture, counted_point_of, area_of_grid, drawing_below, grid_of_drawing, drawing_labelled, drawing_marks, drawing_top, drawing_with, labelled_on_sides};
 ghost use Rattle.line_graph.specs.declared.limits.TheConstants.{MAX_BLOCKS};
 ghost use Rattle.std.specs.Prelude.{◌≡◌, ◌++◌, ◌<◌, ◌≤◌, ◌^◌, IfOk, OnOk, length, max};
 

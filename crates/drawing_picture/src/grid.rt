@@ -1,4 +1,4 @@
-ghost use Rattle.drawing_picture.specs.Grids.{column_start, coordinate_end, coordinate_text, grid_around as grid_enclosing, grid_line, grid_lines, grid_of as grid_around_extent, grid_start, grid_step, grid_text, line_count as line_count_of, rounded_down as rounded_down_to, rounded_up as rounded_up_to, row_start};
+ghost use Rattle.drawing_picture.specs.Grids.{column_start, coordinate_end, coordinate_text, grid_enclosing, grid_line, grid_lines, grid_around_extent, grid_start, grid_step, grid_text, line_count_of, rounded_down_to, rounded_up_to, row_start};
 ghost use Rattle.std.specs.Prelude.{◌≡◌, ◌+◌, ◌++◌, ◌*◌, ◌≤◌, ◌<◌, ◌^◌, OnOk};
 
 use design_model::{Bytes, Extent, Memory, put_decimal};

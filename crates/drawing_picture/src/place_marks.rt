@@ -1,4 +1,4 @@
-ghost use Rattle.drawing_picture.specs.PlaceMarks.{count_of_mark, mark_number, mark_of_meeting, meeting_mark, near_mark as near_mark_of, place_shape, place_text, stretch_shape};
+ghost use Rattle.drawing_picture.specs.PlaceMarks.{count_of_mark, mark_number, mark_of_meeting, meeting_mark, near_mark_of, place_shape, place_text, stretch_shape};
 ghost use Rattle.std.specs.List.{flat_map};
 ghost use Rattle.std.specs.Prelude.{◌≡◌, ◌++◌, ◌<◌, OnOk};
 

@@ -4,7 +4,7 @@ use Rattle.std.proofs.Math.Path.{ap₂}
 use Rattle.drawing_review.specs.declared.grid_point.GridPoint.{GridPoint}
 use Rattle.drawing_review.specs.Meetings.{is_same_grid_point}
 use Rattle.line_meetings.specs.declared.joints.Joint.{Joint}
-use Rattle.line_meetings.specs.Joints.{are_joined_around, point_by, step_after, steps_around, steps_with}
+use Rattle.line_meetings.specs.Joints.{are_joined_around, point_by_steps, step_after, steps_around_of, steps_with}
 use Rattle.line_meetings.specs.Queries.{is_around}
 use Rattle.line_meetings.proofs.Names.{are_joined_after, are_joined_by, joint_of, point_after, LineSegment}
 
@@ -17,24 +17,24 @@ joined_alike f g (t ∷ rest) p q same =
     (λ z. ap₂ (λ b a. point_after b a (f z)) (same t.b) (same t.a) ∙ ap (point_after (g t.b) (g t.a)) (same z))
 
 -- One more step comes last.
-one_more_step : (steps : List Joint) (t : Joint) (z : GridPoint) → point_after t.b t.a (point_by steps z) ≡ point_by (steps ++ t ∷ []) z
+one_more_step : (steps : List Joint) (t : Joint) (z : GridPoint) → point_after t.b t.a (point_by_steps steps z) ≡ point_by_steps (steps ++ t ∷ []) z
 one_more_step [] t z = refl
 one_more_step (s ∷ steps) t z = one_more_step steps t (point_after s.b s.a z)
 
 -- Joints after steps join two points where the steps and theirs make one of them.
-joined_after_steps : (steps joints : List Joint) (p q : GridPoint) → are_joined_after (point_by steps) joints p q
-    ≡ is_same_grid_point (point_by (steps_with steps joints) p) (point_by (steps_with steps joints) q)
+joined_after_steps : (steps joints : List Joint) (p q : GridPoint) → are_joined_after (point_by_steps steps) joints p q
+    ≡ is_same_grid_point (point_by_steps (steps_with steps joints) p) (point_by_steps (steps_with steps joints) q)
 joined_after_steps steps [] p q = refl
 joined_after_steps steps (t ∷ rest) p q =
-    joined_alike (λ z. point_after (point_by steps t.b) (point_by steps t.a) (point_by steps z))
-    (point_by (steps ++ step_after steps t ∷ [])) rest p q (one_more_step steps (step_after steps t))
+    joined_alike (λ z. point_after (point_by_steps steps t.b) (point_by_steps steps t.a) (point_by_steps steps z))
+    (point_by_steps (steps ++ step_after steps t ∷ [])) rest p q (one_more_step steps (step_after steps t))
     ∙ joined_after_steps (steps ++ step_after steps t ∷ []) rest p q
 
 joined_by_steps : (joints : List Joint) (p q : GridPoint) → are_joined_by joints p q
-    ≡ is_same_grid_point (point_by (steps_with [] joints) p) (point_by (steps_with [] joints) q)
+    ≡ is_same_grid_point (point_by_steps (steps_with [] joints) p) (point_by_steps (steps_with [] joints) q)
 joined_by_steps joints p q = joined_after_steps [] joints p q
 
 -- The steps around a point make it and another one the same exactly where segments join them.
 pub joined_around : (gap : ℕ) (segments : List LineSegment) (p q : LineSegment) → are_joined_around gap segments p q
-    ≡ is_same_grid_point (point_by (steps_around gap segments p) p.a) (point_by (steps_around gap segments p) q.a)
+    ≡ is_same_grid_point (point_by_steps (steps_around_of gap segments p) p.a) (point_by_steps (steps_around_of gap segments p) q.a)
 joined_around gap segments p q = joined_by_steps (map joint_of (filter (is_around gap p) segments)) p.a q.a

@@ -26,13 +26,13 @@ abbrev pub are_joined_by : List Joint → (p q : GridPoint) → Bool
 are_joined_by joints p q = are_joined_after (λ z. z) joints p q
 
 -- A point after steps, in each of which the second end of a joint becomes its first end.
-abbrev pub point_by : List Joint → GridPoint → GridPoint
-point_by [] p = p
-point_by (t ∷ rest) p = point_by rest (point_after t.b t.a p)
+abbrev pub point_by_steps : List Joint → GridPoint → GridPoint
+point_by_steps [] p = p
+point_by_steps (t ∷ rest) p = point_by_steps rest (point_after t.b t.a p)
 
 -- The step for a joint after others.
 abbrev pub step_after : List Joint → Joint → Joint
-step_after steps t = record { a = point_by steps t.a; b = point_by steps t.b }
+step_after steps t = record { a = point_by_steps steps t.a; b = point_by_steps steps t.b }
 
 -- Steps with those for further joints, by which the ends of each joint become one point.
 abbrev pub steps_with : List Joint → List Joint → List Joint
@@ -40,8 +40,8 @@ steps_with steps [] = steps
 steps_with steps (t ∷ rest) = steps_with (steps ++ step_after steps t ∷ []) rest
 
 -- The steps for the segments whose ends are within the gap of a point.
-abbrev pub steps_around : ℕ → List LineSegment → (p : LineSegment) → List Joint
-steps_around gap segments p = steps_with [] (map joint_of (filter (is_around gap p) segments))
+abbrev pub steps_around_of : ℕ → List LineSegment → (p : LineSegment) → List Joint
+steps_around_of gap segments p = steps_with [] (map joint_of (filter (is_around gap p) segments))
 
 -- Segments whose ends are within the gap of the point p join it and the point q.
 abbrev pub are_joined_around : ℕ → List LineSegment → (p q : LineSegment) → Bool

@@ -1,6 +1,6 @@
 ghost use Rattle.line_meetings.specs.declared.meeting.TheConstants.{MAX_MEETINGS};
 ghost use Rattle.drawing_review.specs.Meetings.{is_same_grid_point};
-ghost use Rattle.line_meetings.specs.Joints.{are_joined, point_by as point_by_steps, steps_around as steps_around_of};
+ghost use Rattle.line_meetings.specs.Joints.{are_joined, point_by_steps, steps_around_of};
 ghost use Rattle.line_meetings.specs.Meetings.{beside, close_points, close_to, meetings_among, meetings_of_lines, point_beside as point_beside_of, touch as touch_of, touches};
 ghost use Rattle.line_meetings.specs.Telling.{TellsUpTo, told};
 ghost use Rattle.std.specs.List.{flat_map};

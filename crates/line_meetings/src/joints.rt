@@ -1,4 +1,4 @@
-ghost use Rattle.line_meetings.specs.Joints.{joint_of, point_after, point_by as point_by_steps, steps_with};
+ghost use Rattle.line_meetings.specs.Joints.{joint_of, point_after, point_by_steps, steps_with};
 ghost use Rattle.std.specs.Prelude.{◌≡◌, [], IfOk, map};
 
 use design_model::Memory;

@@ -15,7 +15,7 @@ use Rattle.meeting_rounds.specs.MovedPoints.{lines_moved, merged_points, points_
 use Rattle.meeting_rounds.specs.NearLines.{LinesStayNear}
 use Rattle.meeting_rounds.specs.PointBounds.{bounds_of_point, reaches_bounds}
 use Rattle.meeting_rounds.specs.RoundLaws.{RoundsKeepLinesNear, unworked}
-use Rattle.meeting_rounds.specs.Rounds.{acts_on_lines, after_rounds, are_too_long, lines_after, round_acts, settled_lines, worked_by}
+use Rattle.meeting_rounds.specs.Rounds.{acts_on_lines_of, after_rounds, are_too_long, lines_after, round_acts, settled_lines, worked_by}
 use Rattle.meeting_rounds.specs.TrackedLines.{lines_as_worked, tracked_from, tracked_lines, tracked_points}
 use Rattle.meeting_rounds.specs.declared.acts.Acts.{Acts}
 use Rattle.meeting_rounds.specs.declared.rounds.TheConstants.{MAX_ROUNDS}
@@ -88,7 +88,7 @@ rounds_track zero lists gap drawn worked tracks = tracks
 rounds_track (suc n) lists gap drawn worked tracks = by_test acts.is_idle
     (rounds_track n lists gap drawn (worked_by gap acts worked)
     (acts_tracks gap drawn worked.lines acts
-    (puts_either gap worked.lines (are_too_long worked.lines) (acts_on_lines lists gap worked.lines)
+    (puts_either gap worked.lines (are_too_long worked.lines) (acts_on_lines_of lists gap worked.lines)
     (puts_may_be lists gap (tracked_at worked.lines) worked.lines no_acts (meetings_of_lines gap (lines_as_worked worked.lines))
     (All-nil (MayBePut gap worked.lines)))) tracks))
   where

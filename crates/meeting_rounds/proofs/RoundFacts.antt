@@ -8,7 +8,7 @@ use Rattle.line_sections.specs.Sections.{lines_through}
 use Rattle.line_meetings.specs.declared.meeting.MeetingKind.TheVariants as meeting
 use Rattle.meeting_rounds.specs.RoundLaws.{is_passed_over}
 use Rattle.meeting_rounds.specs.Acts.{no_acts}
-use Rattle.meeting_rounds.specs.Rounds.{acts_on_lines, after_rounds, are_too_long, round_acts}
+use Rattle.meeting_rounds.specs.Rounds.{acts_on_lines_of, after_rounds, are_too_long, round_acts}
 use Rattle.meeting_rounds.specs.TrackedLines.{lines_as_worked, tracked_lines}
 use Rattle.meeting_rounds.specs.declared.rounds.TheConstants.{MAX_ROUND_POINTS}
 use Rattle.meeting_rounds.specs.declared.rounds.WorkedLines.{WorkedLines}
@@ -84,4 +84,4 @@ pub known_too_long : map (λ counts. nat_lt MAX_ROUND_POINTS (sum_by (λ n. n) c
 known_too_long = refl
 
 pub long_lines_rest : (lists : Bool) (gap : ℕ) (lines : List TrackedLine) → are_too_long lines ≡ true → round_acts lists gap lines ≡ no_acts
-long_lines_rest lists gap lines long = ap (λ (b : Bool). if b then no_acts else acts_on_lines lists gap lines) long
+long_lines_rest lists gap lines long = ap (λ (b : Bool). if b then no_acts else acts_on_lines_of lists gap lines) long

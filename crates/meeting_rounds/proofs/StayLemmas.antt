@@ -11,7 +11,7 @@ use Rattle.line_sections.specs.Lines.{LineValue}
 use Rattle.meeting_rounds.specs.Acts.{PlacedLists, acts_next, acts_on_crossing, acts_on_kind, no_acts}
 use Rattle.meeting_rounds.specs.MovedPoints.{tracked_at}
 use Rattle.meeting_rounds.specs.RoundLaws.{LinesAtRestStay, UnworkedLinesAreDrawn, is_passed_over, unworked}
-use Rattle.meeting_rounds.specs.Rounds.{acts_on_lines, are_too_long, round_acts, settled_lines}
+use Rattle.meeting_rounds.specs.Rounds.{acts_on_lines_of, are_too_long, round_acts, settled_lines}
 use Rattle.meeting_rounds.specs.TrackedLines.{lines_as_worked, tracked_from, tracked_lines, tracked_points}
 use Rattle.meeting_rounds.specs.declared.acts.Acts.{Acts}
 use Rattle.meeting_rounds.specs.declared.rounds.TheConstants.{MAX_ROUNDS}
@@ -67,7 +67,7 @@ pub lines_stay : LinesAtRestStay
 unfolding settled_lines
 lines_stay = λ lists gap lines starts ends idle.
     let none : no_acts ≡ round_acts lists gap (tracked_lines lines) =
-    none_either (are_too_long (tracked_lines lines)) (acts_on_lines lists gap (tracked_lines lines))
+    none_either (are_too_long (tracked_lines lines)) (acts_on_lines_of lists gap (tracked_lines lines))
     (sym (all_idle lists gap (tracked_at (tracked_lines lines)) (tracked_lines lines) no_acts (meetings_of_lines gap (lines_as_worked (tracked_lines lines)))
     (subst (λ (ls : List LineValue). list_all (λ m. is_passed_over lists m.kind) (meetings_of_lines gap ls) ≡ true)
     (sym (lines_drawn lines)) idle))) in

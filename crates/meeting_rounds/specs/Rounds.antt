@@ -17,8 +17,8 @@ abbrev pub are_too_long : List TrackedLine → Bool
 are_too_long lines = nat_lt MAX_ROUND_POINTS (sum_by (λ line. length line.points) lines)
 
 -- What is done on the meetings of lines in a round.
-abbrev pub acts_on_lines : (lists_crossings : Bool) → ℕ → List TrackedLine → Acts
-acts_on_lines lists_crossings gap lines = acts_next lists_crossings gap
+abbrev pub acts_on_lines_of : (lists_crossings : Bool) → ℕ → List TrackedLine → Acts
+acts_on_lines_of lists_crossings gap lines = acts_next lists_crossings gap
     (tracked_at lines) lines no_acts
     (meetings_of_lines gap (lines_as_worked lines))
 
@@ -26,7 +26,7 @@ acts_on_lines lists_crossings gap lines = acts_next lists_crossings gap
 -- for.
 abbrev pub round_acts : (lists_crossings : Bool) → ℕ → List TrackedLine → Acts
 round_acts lists_crossings gap lines =
-    if are_too_long lines then no_acts else acts_on_lines lists_crossings gap lines
+    if are_too_long lines then no_acts else acts_on_lines_of lists_crossings gap lines
 
 -- Lines after points were put into their segments and points moved.
 abbrev pub lines_after : ℕ → Acts → List TrackedLine → List TrackedLine

@@ -1,5 +1,5 @@
 ghost use Rattle.meeting_rounds.specs.FilledLines.{filled_lines, places_put};
-ghost use Rattle.meeting_rounds.specs.Rounds.{acts_on_lines as acts_on_lines_of, after_rounds, are_too_long, lines_after, round_acts, settled_lines, worked_by};
+ghost use Rattle.meeting_rounds.specs.Rounds.{acts_on_lines_of, after_rounds, are_too_long, lines_after, round_acts, settled_lines, worked_by};
 ghost use Rattle.meeting_rounds.specs.declared.rounds.TheConstants.{MAX_ROUND_GAP};
 ghost use Rattle.std.specs.Prelude.{◌≡◌, ◌≤◌, IfOk, map};
 

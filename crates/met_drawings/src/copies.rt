@@ -1,4 +1,4 @@
-ghost use Rattle.met_drawings.specs.Copies.{counts_after, part_after, part_counts as counts_of, part_if, parts_from, parts_of, passed_by, passed_from, uncopied_lines};
+ghost use Rattle.met_drawings.specs.Copies.{counts_after, part_after, counts_of, part_if, parts_from, parts_of, passed_by, passed_from, uncopied_lines};
 ghost use Rattle.std.specs.Prelude.{◌≡◌, ◌++◌, ◌∷◌, [], IfOk, OnOk, map, true};
 
 use crate::passed_segments::{PassedSegment, PassedSegments};

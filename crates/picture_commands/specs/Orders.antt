@@ -34,10 +34,10 @@ order_made file m = record {
 }
 
 -- A hoop or a colour is for designs alone.
-abbrev pub is_for_design : Option Hoop → Option (List ℕ) → Bool
-is_for_design None None = false
-is_for_design None (Some cloth) = true
-is_for_design (Some hoop) cloth = true
+abbrev pub is_hoop_or_cloth : Option Hoop → Option (List ℕ) → Bool
+is_hoop_or_cloth None None = false
+is_hoop_or_cloth None (Some cloth) = true
+is_hoop_or_cloth (Some hoop) cloth = true
 
 -- The order for the picture of a requested file that is a drawing.
 abbrev pub drawn_order : RequestedFile → DrawnOrder
@@ -46,7 +46,7 @@ drawn_order file = record { drawing = file.input; output = file.output }
 -- The order for a requested file of no format: a drawing has no hoop and no plain picture.
 abbrev pub order_without_format : RequestedFile → Option PictureOrder
 order_without_format file =
-    if is_for_design file.hoop file.cloth then None else Some (drawing (drawn_order file))
+    if is_hoop_or_cloth file.hoop file.cloth then None else Some (drawing (drawn_order file))
 
 -- The order for the picture of a requested file: of a design, if its format is known, else of a
 -- drawing.
@@ -73,7 +73,7 @@ picture_order formats words = order_of_parsed formats (parsed_picture_words word
 
 -- The mistake of a file in a hoop or on a colour, if its format isn't known: a drawing has neither.
 abbrev pub design_mistake : RequestedFile → Option Meaning → Option MistakenWord
-design_mistake file None = if is_for_design file.hoop file.cloth
+design_mistake file None = if is_hoop_or_cloth file.hoop file.cloth
     then Some (mistake_at file.input misfit.NoFormat) else None
 design_mistake file (Some m) = None
 

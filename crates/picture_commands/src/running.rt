@@ -1,7 +1,7 @@
 ghost use Rattle.program_texts.specs.MistakenWords.{MistakenWord};
 ghost use Rattle.format_traits.specs.Endings.{format_of};
 ghost use Rattle.picture_commands.specs.Mistakes.{mistaken_word};
-ghost use Rattle.picture_commands.specs.Orders.{is_for_design as is_hoop_or_cloth, mistake_of_picture, order_of_picture, order_with, order_without_format, picture_mistake, picture_order, picture_program_after};
+ghost use Rattle.picture_commands.specs.Orders.{is_hoop_or_cloth, mistake_of_picture, order_of_picture, order_with, order_without_format, picture_mistake, picture_order, picture_program_after};
 ghost use Rattle.picture_commands.specs.Words.{AreGoodNames, ArePictureNames, cloth_digits, picture, picture_request, requested_file};
 ghost use Rattle.program_shell.specs.ProgramRuns.{RunEnds};
 ghost use Rattle.program_shell.specs.RunViews.{views_of};
