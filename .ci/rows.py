@@ -147,7 +147,7 @@ class Rows:
 
 # The crates whose sources have the texts of refusals.
 SCANNED = ("program_texts", "program_shell", "program_inputs", "route_texts", "stitch_cli",
-           "picture_commands", "drawing_commands", "look_reports", "edited_designs", "design_commands")
+           "picture_commands", "drawing_commands", "drawing_reports", "edited_designs", "design_commands")
 
 # Literals that are no refusals, by file, with the reason.
 EXCEPTIONS = {
@@ -167,11 +167,11 @@ EXCEPTIONS = {
     "stitch_cli/checking.rt": ["yes"],
     "stitch_cli/hooping.rt": ["fits upright", "fits turned"],
     # reports of `look`, `snap`, `cross`, `space`, `free` and `near`
-    "look_reports/look_texts.rt": [
+    "drawing_reports/look_texts.rt": [
         "pieces {pieces} places {places}", " thread {thread} travel {travel}",
         " stitches {stitches} shortest {shortest} longest {longest} short {short}", "block {block} piece {number}",
         " lines {lines} junctions {junctions} odd {odd}", "size {across} {down} pieces {pieces}"],
-    "look_reports/place_texts.rt": [
+    "drawing_reports/place_texts.rt": [
         "block {block} line {line}", " and line {number}", " at {x} {y}: ", "{what}, {distance} from line {other}",
         "loose end", "near point", "unlisted meeting", "crossing", "repeated segment", "overlap from {x} {y} to {u} {v}",
         "more than 65536 places: the first are named", ": {stitches} {noun}", "stitch", "stitches",

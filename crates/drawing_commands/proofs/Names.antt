@@ -9,7 +9,6 @@ pub use Rattle.drawing_commands.specs.DrawingEditWords.{drawing_edits_of, parsed
 pub use Rattle.drawing_commands.specs.DrawingEditing.{IsEdited, at_edit, bad_edit_is_out_of_memory, bad_edit_text, drawing_edit_order}
 pub use Rattle.drawing_commands.specs.DrawingEditing.{drawing_edit_read, edit_fault_text, edited_plan, edits_applied}
 pub use Rattle.drawing_commands.specs.FreeOrders.{IsFreeProduct, free_made, free_order, free_read}
-pub use Rattle.drawing_commands.specs.FreeTexts.{closed_penetrations, found_lines, free_penetrations}
 pub use Rattle.drawing_commands.specs.NearFiles.{IsNearProduct, near_file_order, near_made, near_read}
 pub use Rattle.drawing_commands.specs.Looks.{IsLook, look_order, look_read}
 pub use Rattle.drawing_commands.specs.MeetOrders.{IsMeetProduct, cross_order, meet_made, meet_read, snap_order}

@@ -11,12 +11,10 @@ pub mod WholeProducts
 pub mod CutProducts
 pub mod MeetTexts
 pub mod MeetOrders
-pub mod LengthSpans
 pub mod SpaceTexts
 pub mod TextsRead
 pub mod SpaceOrders
 pub mod VersionOne
-pub mod FreeTexts
 pub mod FreeOrders
 pub mod NearFiles
 pub mod DrawingEditWords

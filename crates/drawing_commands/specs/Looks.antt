@@ -14,11 +14,11 @@ use Rattle.line_graph.specs.PiecesOfDrawings.{ArePiecesOf}
 use Rattle.line_meetings.specs.Meetings.{meetings_of_lines}
 use Rattle.line_sections.specs.Lines.{points_of_lines}
 use Rattle.piece_stitches.specs.PieceStitches.{stitches_of_pieces}
-use Rattle.look_reports.specs.Spacings.{spacings_of_lines}
+use Rattle.drawing_reports.specs.Spacings.{spacings_of_lines}
 use Rattle.program_shell.specs.Plans.{Plan, accepts, reads}
 use Rattle.program_shell.specs.Products.{ProductValue, report_product}
 use Rattle.drawing_commands.specs.FaultTexts.{plan_after_reading}
-use Rattle.look_reports.specs.LookTexts.{look_report}
+use Rattle.drawing_reports.specs.LookTexts.{look_report}
 
 -- The order of `look`: the drawing to read, and the gap in tenths of a millimetre.
 pub record LookOrder : Type 0 where

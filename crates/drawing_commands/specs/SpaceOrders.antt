@@ -16,7 +16,7 @@ use Rattle.program_shell.specs.Plans.{Plan, accepts, reads, refuses}
 use Rattle.program_shell.specs.Products.{ProductValue}
 use Rattle.program_texts.specs.DrawingTexts.{draw_kind_text}
 use Rattle.drawing_commands.specs.FaultTexts.{plan_after_reading}
-use Rattle.drawing_commands.specs.LengthSpans.{span_of}
+use Rattle.drawing_reports.specs.LengthSpans.{span_of}
 use Rattle.drawing_commands.specs.declared.text_reading.TextRead.{TextRead}
 use Rattle.drawing_commands.specs.TextsRead.{text_read}
 use Rattle.drawing_commands.specs.VersionOne.{plan_if_kept}

@@ -8,7 +8,6 @@ ghost use Rattle.program_shell.specs.Products.{product_value};
 ghost use Rattle.program_shell.specs.StepOutcomes.{RunsPlan, RunsPurePlan};
 ghost use Rattle.std.specs.Prelude.{IfOk};
 
-use crate::free_texts::describe_free;
 use crate::space_texts::space_failure;
 use crate::text_reading::{TextRead, text_in};
 use crate::version_one::{is_kept, not_kept};
@@ -16,6 +15,7 @@ use crate::whole_files::whole_product;
 use command_words::FileNames;
 use design_model::Memory;
 use drawing_comments::TextComments;
+use drawing_reports::describe_free;
 use free_ends::{JoinedLines, free, join_lines};
 use outside_io::Store;
 use program_shell::{Made, Product};

@@ -9,7 +9,7 @@ use design_model::Memory;
 use line_graph::pieces;
 use line_meetings::find_meetings;
 use line_sections::lines_extent;
-use look_reports::{describe_look, short_spacings};
+use drawing_reports::{describe_look, short_spacings};
 use outside_io::Store;
 use piece_stitches::piece_stitches;
 use program_inputs::{LinesRead, lines_in};

@@ -6,8 +6,8 @@ ghost use Rattle.program_shell.specs.StepOutcomes.{IsFaultFailure, IsRefusalWith
 ghost use Rattle.program_texts.specs.DrawingTexts.{draw_kind_text};
 ghost use Rattle.std.specs.Prelude.{◌≡◌, IfOk, string_bytes};
 
-use crate::length_span::{LengthSpan, length_span};
 use design_model::{Bytes, Memory};
+use drawing_reports::{LengthSpan, length_span};
 use line_graph::{DrawKind, Drawing, drawing_cost};
 use program_shell::{Failure, describe_file, refused, text_bytes};
 use program_texts::kind_text;

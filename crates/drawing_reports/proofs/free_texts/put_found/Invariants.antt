@@ -1,0 +1,13 @@
+use Rattle.std.proofs.Common.{◌≡◌, ◌++◌, ◌+◌, length}
+use Rattle.drawing_reports.specs.FreeTexts.{found_lines}
+use Rattle.drawing_reports.proofs.free_texts.put_found.Given as goal
+
+-- the lines so far, and those of the pieces that are left
+abbrev pub invariant-loop-piece : goal.invariant-loop-piece
+invariant-loop-piece l = record {
+  numbered : l.index + length l.rest ≡ length l.pieces;
+  lines : l.text ++ found_lines l.index l.rest l.left ≡ l.fn.text ++ found_lines 0 l.pieces l.found;
+}
+
+abbrev pub decreases-loop-piece : goal.decreases-loop-piece
+decreases-loop-piece l = length l.rest

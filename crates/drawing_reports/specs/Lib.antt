@@ -1,0 +1,10 @@
+-- Which stitches of a line are short.
+pub mod Spacings
+-- The lines of places.
+pub mod PlaceTexts
+-- The shortest and the longest stitch of lines.
+pub mod LengthSpans
+-- The report of the best ends.
+pub mod FreeTexts
+-- Read this one first: the report of places.
+pub mod LookTexts
