@@ -182,7 +182,7 @@ EXCEPTIONS = {
     "drawing_commands/space_texts.rt": [
         "points {points} to {less} stitches {stitches} to {fewer} ",
         "shortest {short} to {shorter} longest {long} to {longer} "],
-    "drawing_commands/free_texts.rt": [
+    "drawing_reports/free_texts.rt": [
         " penetrations {closed} to {cost}", " odd {odd} left", "penetrations {before} to {after} pieces {pieces}"],
     "drawing_commands/near_files.rt": ["travel {before} to {after} pieces {pieces}"],
     # the line of the version

@@ -27,8 +27,8 @@ use Rattle.design_model.specs.Lengths.{length_of, square_of, whole_root}
 use Rattle.picture_parts.specs.Parts.{around, filled}
 use Rattle.picture_parts.specs.Paths.{move_text, path_end, straight_text}
 
--- A stitch of 0.7 mm on an axis shows its hole, and an arrow follows 5 mm of thread, in thousandths, in a square of 5 mm. Passes are distinguished up to
--- three, each with its own arc.
+-- A stitch of 0.7 mm on an axis shows its hole, and an arrow follows 5 mm of thread, in thousandths, in a square of 5 mm. Passes are
+-- distinguished up to three, each with its own arc.
 pub known_threads : (MIN_SHOWN ≡ 7) × (ARROW_GAP ≡ 5000) × (MAX_PASSES ≡ 3) × (ARROW_SQUARE ≡ 50)
 known_threads = (refl, refl, refl, refl)
 
@@ -87,7 +87,8 @@ rim = record { corners = extent; across = 5; down = 1 }
 -- At each of the four sides the first point outside, and the first that is not.
 pub known_outside : (map (is_beyond_hoop rim) (point (pos 14) (pos 0) ∷ point (pos 56) (pos 0) ∷ point (pos 30) (negsuc 19)
     ∷ point (pos 30) (pos 181) ∷ []) ≡ true ∷ true ∷ true ∷ true ∷ [])
-    × (map (is_beyond_hoop rim) (point (pos 15) (pos 0) ∷ point (pos 55) (pos 0) ∷ point (pos 30) (negsuc 18) ∷ point (pos 30) (pos 180) ∷ [])
+    × (map (is_beyond_hoop rim) (point (pos 15) (pos 0) ∷ point (pos 55) (pos 0) ∷ point (pos 30) (negsuc 18) ∷ point (pos 30)
+        (pos 180) ∷ [])
     ≡ false ∷ false ∷ false ∷ false ∷ [])
 known_outside = (refl, refl)
 

@@ -64,7 +64,8 @@ threads = codes "<path class='travel' d='M10,-14L50,16'/>" ++ (10 ∷ codes "<pa
 
 -- What is sewn again, in dashes: blue on Mint Green; of Deep Gold there is nothing.
 abbrev seconds : List ℕ
-seconds = codes "<path class='again' stroke='#1d3bd1' d='" ++ (10 ∷ codes "M40,-20A30,30,0,0,1,10,-20" ++ (10 ∷ codes "M10,-20A18,18,0,0,1,40,-20"
+seconds = codes "<path class='again' stroke='#1d3bd1' d='" ++ (10 ∷ codes "M40,-20A30,30,0,0,1,10,-20"
+    ++ (10 ∷ codes "M10,-20A18,18,0,0,1,40,-20"
     ++ (10 ∷ codes "M40,-20A15,15,0,0,1,10,-20'/>" ++ (10 ∷ codes "<path class='again' stroke='#1d3bd1' d=''/>" ++ 10 ∷ []))))
 
 -- The needle holes, without that of the stitch of 0.6 mm. Arrows at the second and the fourth pass, before which are 2.5 and 3 mm, and
@@ -100,12 +101,14 @@ below = codes "<g transform='translate(10,51) translate(0,75)'>"
 abbrev legend : List ℕ
 legend = codes "<g transform='translate(0,160)'>"
     ++ (10 ∷ codes "<g transform='translate(0,28)'><path stroke-width='14' d='M7,-7h26' stroke='#9ed67d'/>"
-    ++ (codes "<text x='52'>thread 10</text><text class='small' x='165'>Mint Green</text><text x='305'>needles 6</text><text x='480'>12.6 mm</text></g>"
+    ++ (codes "<text x='52'>thread 10</text><text class='small' x='165'>Mint Green</text>"
+    ++ (codes "<text x='305'>needles 6</text><text x='480'>12.6 mm</text></g>"
     ++ (10 ∷ codes "<g transform='translate(0,56)'><path stroke-width='14' d='M7,-7h26' stroke='#e8a900'/>"
-    ++ (codes "<text x='52'>thread 11</text><text class='small' x='165'>Deep Gold</text><text x='305'>needles 4</text><text x='480'>2.2 mm</text></g>"
+    ++ (codes "<text x='52'>thread 11</text><text class='small' x='165'>Deep Gold</text>"
+    ++ (codes "<text x='305'>needles 4</text><text x='480'>2.2 mm</text></g>"
     ++ (10 ∷ codes "</g>" ++ (10 ∷ codes "<g transform='translate(0,244)'><text class='small'>hoop 10.0 x 5.0 mm: fits turned</text>"
     ++ (codes "<path class='line' d='M498,-6m-9,0l9,-9l9,9l-9,9z'/><text class='small' x='514'>middle</text></g>"
-    ++ (10 ∷ codes "</g>" ++ (10 ∷ codes "</g>" ++ (10 ∷ codes "</svg>" ++ 10 ∷ []))))))))))
+    ++ (10 ∷ codes "</g>" ++ (10 ∷ codes "</g>" ++ (10 ∷ codes "</svg>" ++ 10 ∷ []))))))))))))
 
 -- Each shape of the key is that of its mark, around the height 121, and the words follow it.
 abbrev key : List ℕ
@@ -124,10 +127,10 @@ known_key = refl
 
 pub known_picture : picture_of design (Some (record { width = 100; height = 50 }))
     ≡ top ++ (frame ++ (threads ++ (seconds ++ (holes_and_arrows ++ (marks ++ (below ++ (key ++ legend)))))))
-unfolding again_colour_of arc_text around arrow_shape below_start below_text block_start block_words caption coloured_path colour_of_thread digits filled
-    foot_text framed_text group_end head_text hole_shape hoop_end hoop_key_end hoop_key_start hoop_start hoop_text length_of mark_text middle_mark move_text name_of_thread offset_text
-    over_text path_end path_layer path_start picture_with piece_number seconds_text sewn_text_of shape_at square_of straight_text threads_text title_text top_text
-    travel_shape whole_root
+unfolding again_colour_of arc_text around arrow_shape below_start below_text block_start block_words caption coloured_path
+    colour_of_thread digits filled foot_text framed_text group_end head_text hole_shape hoop_end hoop_key_end hoop_key_start hoop_start
+    hoop_text length_of mark_text middle_mark move_text name_of_thread offset_text over_text path_end path_layer path_start picture_with
+    piece_number seconds_text sewn_text_of shape_at square_of straight_text threads_text title_text top_text travel_shape whole_root
 known_picture = refl
 
 -- The thread alone on the colour fafbfc: the sheet has 6 mm around 4 mm by 7.1 mm.

@@ -12,8 +12,8 @@ use Rattle.program_shell.specs.Products.{ProductValue, one_file_product}
 abbrev pub cut_text : TextComments → DrawingValue → List ℕ
 cut_text comments d = with_comments comments (drawn_text d)
 
--- The product that writes a drawing with its lines cut, with a report. The text has the lines of the
--- canonical text, and is read as the drawing.
+-- The product that writes a drawing with its lines cut, with a report. The text has the lines of
+-- the canonical text, and is read as the drawing.
 pub record IsCutProduct (output : List ℕ) (comments : TextComments) (d : DrawingValue)
     (report : List ℕ) (product : ProductValue) : Type 0 where
   pub same : spoken_lines (cut_text comments d) ≡ spoken_lines (drawn_text d)

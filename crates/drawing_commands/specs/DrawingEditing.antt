@@ -62,8 +62,8 @@ edit_fault_text fault.OtherBlock = codes "pieces in different blocks"
 abbrev pub bad_edit_text : List ℕ → BadEdit → List ℕ
 bad_edit_text name bad = text_at name (codes "edit") bad.number (edit_fault_text bad.fault)
 
--- The product of `edit`: the edited drawing, written with its lines cut, and a report with the number
--- of lines, the number of pieces and the cost.
+-- The product of `edit`: the edited drawing, written with its lines cut, and a report with the
+-- number of lines, the number of pieces and the cost.
 pub record IsEdited (output : List ℕ) (comments : TextComments) (d : DrawingValue)
     (product : ProductValue) : Type 0 where
   pub pieces : List (List ℕ)

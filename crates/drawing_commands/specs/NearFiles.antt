@@ -35,8 +35,8 @@ abbrev pub near_report : (before after pieces : ℕ) → List ℕ
 near_report before after pieces = codes "travel " ++ (tenths_text before ++ (codes " to "
     ++ (tenths_text after ++ (codes " pieces " ++ (decimal pieces ++ newline)))))
 
--- The comments of what was read, before the lines of the near drawing: these are the sections of the
--- lines as they are drawn, in another order.
+-- The comments of what was read, before the lines of the near drawing: these are the sections of
+-- the lines as they are drawn, in another order.
 abbrev pub near_comments : TextRead → DrawingValue → TextComments
 near_comments text near = comments_of_sections text.comments text.lines.drawn.drawing.lines
     text.lines.drawing.lines near.lines

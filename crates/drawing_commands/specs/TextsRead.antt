@@ -1,4 +1,5 @@
--- What is read of the text of a drawing: the drawing, its lines as they are drawn, and its comments.
+-- What is read of the text of a drawing: the drawing, its lines as they are drawn, and its
+-- comments.
 use Rattle.std.specs.Prelude.{ℕ, List, Result, Ok}
 use Rattle.drawing_comments.specs.CommentedTexts.{comments_of}
 use Rattle.drawing_text.specs.declared.draw_fault.DrawFault.{DrawFault}

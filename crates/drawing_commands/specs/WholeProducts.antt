@@ -24,7 +24,7 @@ pub record IsWhole (drawn joined : DrawingValue) : Type 0 where
 abbrev pub whole_text : (drawn joined : DrawingValue) → List ℕ
 whole_text drawn joined = drawn_text (with_ends_of drawn joined)
 
--- That text, with comments before its blocks and lines.
+-- The text of lines as they are drawn, with comments before its blocks and lines.
 abbrev pub commented_text : TextComments → (drawn joined : DrawingValue) → List ℕ
 commented_text comments drawn joined = with_comments comments (whole_text drawn joined)
 

@@ -7,7 +7,7 @@ use Rattle.std.proofs.lemmas.List.Elements.{All-append, All-cons, All-head, All-
 use Rattle.std.proofs.lemmas.List.Splits.{slice_split_at, slice_split_none}
 use Rattle.std.specs.List.{onto_first, slice_split}
 use Rattle.drawing_comments.specs.CommentLaws.{AreComments, AreTextComments, CommentsKeepLines, FoundAreComments, spoken_lines}
-use Rattle.drawing_comments.specs.CommentedTexts.{comment_at, comment_line, comments_after, comments_by, comments_by_mark, comments_from, comments_left, comments_past, first_comment, mark_of, lines_with, no_comments, other_found}
+use Rattle.drawing_comments.specs.CommentedTexts.{comment_at, comment_line, comments_after, comments_by, comments_by_mark, comments_from, comments_left, comments_past, first_comment, line_mark, lines_with, no_comments, other_found}
 use Rattle.drawing_comments.specs.declared.text_comments.TextComments.{TextComments}
 use Rattle.drawing_text.specs.Words.{is_blank_byte, is_filled, is_ignored_line, line_without_return, text_lines, words_of_line}
 use Rattle.text_parts.specs.Parts.{parts_between}
@@ -117,7 +117,8 @@ parts_free (b ∷ rest) = by_test (b == 10) refl (parts_between 10 rest) (parts_
         → All IsFree (cond t ([] ∷ parts) (onto_first b parts))
     by_test true is parts free = All-cons IsFree [] parts (All-nil (λ (b : ℕ). is_feed b ≡ false)) free
     by_test false is [] free =
-        All-cons IsFree (b ∷ []) [] (All-cons (λ (b : ℕ). is_feed b ≡ false) b [] is (All-nil (λ (b : ℕ). is_feed b ≡ false))) (All-nil IsFree)
+        All-cons IsFree (b ∷ []) [] (All-cons (λ (b : ℕ). is_feed b ≡ false) b [] is (All-nil (λ (b : ℕ). is_feed b ≡ false)))
+            (All-nil IsFree)
     by_test false is (part ∷ parts) free =
         All-cons IsFree (b ∷ part) parts (All-cons (λ (b : ℕ). is_feed b ≡ false) b part is (All-head IsFree part parts free))
         (All-tail IsFree part parts free)
@@ -130,30 +131,30 @@ some_is : (b : ℕ) → ◌≡◌ {A = Option ℕ} (Some b) (Some 35) → (b == 
 some_is b is = grind (arith, nat_tests)
 
 -- A comment line is ignored.
-marked_ignored : (line : List ℕ) → mark_of line ≡ Some 35 → is_ignored_line (words_of_line line) ≡ true
+marked_ignored : (line : List ℕ) → line_mark line ≡ Some 35 → is_ignored_line (words_of_line line) ≡ true
 marked_ignored [] is = absurd (let no : ⊥ = cc in no)
 marked_ignored (b ∷ rest) is = by_test (is_blank_byte b) refl is (slice_split is_blank_byte rest) (marked_ignored rest)
   where
-    by_test : (t : Bool) → is_blank_byte b ≡ t → cond t (mark_of rest) (Some b) ≡ Some 35 → (parts : List (List ℕ))
-        → (mark_of rest ≡ Some 35 → is_ignored_line (filter is_filled (slice_split is_blank_byte rest)) ≡ true)
+    by_test : (t : Bool) → is_blank_byte b ≡ t → cond t (line_mark rest) (Some b) ≡ Some 35 → (parts : List (List ℕ))
+        → (line_mark rest ≡ Some 35 → is_ignored_line (filter is_filled (slice_split is_blank_byte rest)) ≡ true)
         → is_ignored_line (filter is_filled (cond t ([] ∷ slice_split is_blank_byte rest) (onto_first b parts))) ≡ true
     by_test true blank is parts later = later is
     by_test false word is [] later = some_is b is
     by_test false word is (part ∷ parts) later = some_is b is
 
 -- without its return it is a comment too
-mark_without_return : (line : List ℕ) → mark_of line ≡ Some 35 → mark_of (line_without_return line) ≡ Some 35
+mark_without_return : (line : List ℕ) → line_mark line ≡ Some 35 → line_mark (line_without_return line) ≡ Some 35
 mark_without_return [] is = is
 mark_without_return (b ∷ []) is = by_test (b == 13) refl
   where
-    by_test : (t : Bool) → (b == 13) ≡ t → mark_of (cond t [] (b ∷ [])) ≡ Some 35
+    by_test : (t : Bool) → (b == 13) ≡ t → line_mark (cond t [] (b ∷ [])) ≡ Some 35
     by_test true return = absurd (grind (arith, nat_tests))
     by_test false other = is
 mark_without_return (b ∷ c ∷ rest) is = by_test (is_blank_byte b) is (mark_without_return (c ∷ rest))
   where
-    by_test : (t : Bool) → cond t (mark_of (c ∷ rest)) (Some b) ≡ Some 35
-        → (mark_of (c ∷ rest) ≡ Some 35 → mark_of (line_without_return (c ∷ rest)) ≡ Some 35)
-        → cond t (mark_of (line_without_return (c ∷ rest))) (Some b) ≡ Some 35
+    by_test : (t : Bool) → cond t (line_mark (c ∷ rest)) (Some b) ≡ Some 35
+        → (line_mark (c ∷ rest) ≡ Some 35 → line_mark (line_without_return (c ∷ rest)) ≡ Some 35)
+        → cond t (line_mark (line_without_return (c ∷ rest))) (Some b) ≡ Some 35
     by_test true is later = later is
     by_test false is later = is
 
@@ -168,7 +169,7 @@ free_without_return (b ∷ c ∷ rest) free =
     All-cons (λ (b : ℕ). is_feed b ≡ false) b (line_without_return (c ∷ rest)) (All-head (λ (b : ℕ). is_feed b ≡ false) b (c ∷ rest) free)
     (free_without_return (c ∷ rest) (All-tail (λ (b : ℕ). is_feed b ≡ false) b (c ∷ rest) free))
 
-comment_is : (line : List ℕ) → IsFree line → mark_of line ≡ Some 35 → AreComments (comment_line line)
+comment_is : (line : List ℕ) → IsFree line → line_mark line ≡ Some 35 → AreComments (comment_line line)
 comment_is line free is = λ text.
     let bare : List ℕ = line_without_return line in
     ap spoken_lines (append_assoc bare (10 ∷ []) text)
@@ -186,7 +187,7 @@ none_are = λ text. refl
 
 -- What is found after one more line are comments.
 after_are : (c : TextComments) (line : List ℕ) → IsFree line → AreTextComments c → AreTextComments (comments_after c line)
-after_are c line free are = by_mark (mark_of line) refl
+after_are c line free are = by_mark (line_mark line) refl
   where
     other : (t : Bool) → AreTextComments (cond t (record c { top = c.top ++ c.last; last = [] }) c)
     other true = record {
@@ -197,7 +198,7 @@ after_are c line free are = by_mark (mark_of line) refl
     }
     other false = are
 
-    by_tests : (r s t : Bool) → (r ≡ true → mark_of line ≡ Some 35)
+    by_tests : (r s t : Bool) → (r ≡ true → line_mark line ≡ Some 35)
         → AreTextComments (cond r (record c { last = c.last ++ comment_line line })
         (cond s (record c { blocks = c.blocks ++ c.last ∷ []; last = [] })
         (cond t (record c { lines = c.lines ++ c.last ∷ []; last = [] }) (other_found c))))
@@ -221,7 +222,7 @@ after_are c line free are = by_mark (mark_of line) refl
     }
     by_tests false false false is = other (length c.blocks == 0)
 
-    by_mark : (m : Option ℕ) → mark_of line ≡ m → AreTextComments (comments_by_mark c line m)
+    by_mark : (m : Option ℕ) → line_mark line ≡ m → AreTextComments (comments_by_mark c line m)
     by_mark None is = are
     by_mark (Some mark) is = by_tests (mark == 35) (mark == 99) (mark == 108)
         (λ hash. is ∙ ap (λ (n : ℕ). Some n) (same_number mark 35 hash))
@@ -284,11 +285,11 @@ lines_kept [] c free are = refl
 lines_kept (line ∷ []) c free are =
     are.last line ∙ (spoken_parts line ∙ ap spoken (slice_split_none is_feed line (All-head IsFree line [] free)))
 lines_kept (line ∷ next ∷ rest) c free are =
-    let below : TextComments = comments_left c (mark_of line) in
+    let below : TextComments = comments_left c (line_mark line) in
     let later : List ℕ = lines_with below (next ∷ rest) in
     let kept : spoken_lines later ≡ spoken (next ∷ rest) =
-    lines_kept (next ∷ rest) below (All-tail IsFree line (next ∷ rest) free) (below_are c (mark_of line) are) in
-    before_are c (mark_of line) are (line ++ 10 ∷ later)
+    lines_kept (next ∷ rest) below (All-tail IsFree line (next ∷ rest) free) (below_are c (line_mark line) are) in
+    before_are c (line_mark line) are (line ++ 10 ∷ later)
     ∙ (line_before line later (All-head IsFree line (next ∷ rest) free)
     ∙ spoken_more line (parts_between 10 later) (next ∷ rest) (sym (spoken_parts later) ∙ kept))
 
@@ -298,11 +299,11 @@ comments_keep_lines = λ c text are. are.top (lines_with c (parts_between 10 tex
 
 -- the next line, after its comments
 pub lines_on : (c : TextComments) (line text : List ℕ) → lines_with c (line ∷ parts_between 10 text)
-    ≡ comments_by c (mark_of line) ++ (line ++ 10 ∷ lines_with (comments_left c (mark_of line)) (parts_between 10 text))
+    ≡ comments_by c (line_mark line) ++ (line ++ 10 ∷ lines_with (comments_left c (line_mark line)) (parts_between 10 text))
 lines_on c line text = by_parts (parts_between 10 text) (some_parts text)
   where
     by_parts : (parts : List (List ℕ)) → Begins parts → lines_with c (line ∷ parts)
-        ≡ comments_by c (mark_of line) ++ (line ++ 10 ∷ lines_with (comments_left c (mark_of line)) parts)
+        ≡ comments_by c (line_mark line) ++ (line ++ 10 ∷ lines_with (comments_left c (line_mark line)) parts)
     by_parts [] begins = absurd (none_begins begins.first begins.more begins.is)
     by_parts (next ∷ rest) begins = refl
 
@@ -322,11 +323,12 @@ without_return_same (b ∷ c ∷ rest) ends =
 
 -- a line that is written after its comments, and the lines after it
 pub line_put : (out total line text : List ℕ) (c : TextComments) → out ++ lines_with c (line ∷ parts_between 10 text) ≡ total
-    → (out ++ (comments_by c (mark_of line) ++ (line ++ 10 ∷ []))) ++ lines_with (comments_left c (mark_of line)) (parts_between 10 text)
+    → (out ++ (comments_by c (line_mark line) ++ (line ++ 10 ∷ []))) ++ lines_with (comments_left c (line_mark line))
+        (parts_between 10 text)
     ≡ total
 line_put out total line text c is =
-    let before : List ℕ = comments_by c (mark_of line) in
-    let rest : List ℕ = lines_with (comments_left c (mark_of line)) (parts_between 10 text) in
+    let before : List ℕ = comments_by c (line_mark line) in
+    let rest : List ℕ = lines_with (comments_left c (line_mark line)) (parts_between 10 text) in
     append_assoc out (before ++ (line ++ 10 ∷ [])) rest
     ∙ (ap (λ (bytes : List ℕ). out ++ bytes) (append_assoc before (line ++ 10 ∷ []) rest
     ∙ (ap (λ (bytes : List ℕ). before ++ bytes) (append_assoc line (10 ∷ []) rest) ∙ sym (lines_on c line text))) ∙ is)

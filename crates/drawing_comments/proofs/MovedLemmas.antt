@@ -12,7 +12,8 @@ part_comments_are : (comment : List ℕ) (n : ℕ) → AreComments comment → A
 part_comments_are comment zero is = All-nil AreComments
 part_comments_are comment (suc n) is = All-cons AreComments comment (uncommented n) is (uncommented_are n)
 
-line_comments_are : (comments : List (List ℕ)) (counts : List ℕ) → All AreComments comments → All AreComments (line_comments comments counts)
+line_comments_are : (comments : List (List ℕ)) (counts : List ℕ) → All AreComments comments
+    → All AreComments (line_comments comments counts)
 line_comments_are [] counts are = All-nil AreComments
 line_comments_are (comment ∷ rest) [] are = All-nil AreComments
 line_comments_are (comment ∷ rest) (n ∷ counts) are = All-append AreComments (part_comments comment n) (line_comments rest counts)

@@ -50,6 +50,7 @@ pub sections_keep_comments : SectionsKeepComments
 sections_keep_comments = λ c lines sections ordered are. record {
   top = are.top;
   blocks = are.blocks;
-  lines = ordered_are ordered sections (section_comments 0 lines c.lines sections) (section_comments_are sections 0 lines c.lines are.lines);
+  lines = ordered_are ordered sections (section_comments 0 lines c.lines sections)
+      (section_comments_are sections 0 lines c.lines are.lines);
   last = are.last;
 }

@@ -7,9 +7,9 @@ use Rattle.text_parts.specs.Parts.{parts_between}
 use Rattle.drawing_comments.specs.declared.text_comments.TextComments.{TextComments}
 
 -- The first byte of a line that isn't a blank, if there is one.
-abbrev pub mark_of : List ℕ → Option ℕ
-mark_of [] = None
-mark_of (b ∷ rest) = if is_blank_byte b then mark_of rest else Some b
+abbrev pub line_mark : List ℕ → Option ℕ
+line_mark [] = None
+line_mark (b ∷ rest) = if is_blank_byte b then line_mark rest else Some b
 
 -- A comment line, as it is written: without a return, and with the end of the line.
 abbrev pub comment_line : List ℕ → List ℕ
@@ -43,7 +43,7 @@ comments_by_mark c line (Some mark) =
 
 -- Comments after one more line.
 abbrev pub comments_after : TextComments → List ℕ → TextComments
-comments_after c line = comments_by_mark c line (mark_of line)
+comments_after c line = comments_by_mark c line (line_mark line)
 
 -- Comments after lines in order.
 abbrev pub comments_from : TextComments → List (List ℕ) → TextComments
@@ -88,8 +88,8 @@ comments_left c mark = record c {
 abbrev pub lines_with : TextComments → List (List ℕ) → List ℕ
 lines_with c [] = []
 lines_with c (line ∷ []) = c.last ++ line
-lines_with c (line ∷ next ∷ rest) = comments_by c (mark_of line)
-    ++ (line ++ 10 ∷ lines_with (comments_left c (mark_of line)) (next ∷ rest))
+lines_with c (line ∷ next ∷ rest) = comments_by c (line_mark line)
+    ++ (line ++ 10 ∷ lines_with (comments_left c (line_mark line)) (next ∷ rest))
 
 -- A text with comments: those at its top, and then its lines, each after its comments.
 abbrev pub with_comments : TextComments → List ℕ → List ℕ

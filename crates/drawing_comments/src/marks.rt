@@ -1,10 +1,10 @@
-ghost use Rattle.drawing_comments.specs.CommentedTexts.{mark_of};
+ghost use Rattle.drawing_comments.specs.CommentedTexts.{line_mark};
 ghost use Rattle.drawing_text.specs.Words.{is_blank_byte};
 ghost use Rattle.std.specs.Prelude.{◌≡◌};
 
 /// Returns the first byte of a line that isn't a blank, if there is one.
 pub(crate) fn first_mark(line: &[u8]) -> Option<u8>
-    ensures { result ≡ mark_of line.now }
+    ensures { result ≡ line_mark line.now }
 {
     for byte in line {
         if !is_blank(*byte) {

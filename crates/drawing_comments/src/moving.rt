@@ -51,6 +51,7 @@ pub fn comments_of_blocks(alloc: Global, comments: &TextComments) -> Result<Text
     Ok(kept)
 }
 
+/// Returns a copy of a comment.
 pub(crate) fn copied(alloc: Global, comment: &Bytes) -> Result<Bytes, Memory>
     ensures { IfOk result (λ copy. copy ≡ comment.now) }
 {
@@ -59,6 +60,7 @@ pub(crate) fn copied(alloc: Global, comment: &Bytes) -> Result<Bytes, Memory>
     Ok(copy)
 }
 
+/// Returns copies of comments.
 pub(crate) fn all_copied(alloc: Global, comments: &[Bytes]) -> Result<Comments, Memory>
     ensures { IfOk result (λ copies. copies ≡ comments.now) }
 {

@@ -88,7 +88,8 @@ abbrev half : ℕ → HalfPoint
 half x = record { x = 60000 + x; y = 60000 }
 
 -- The middle of the only segment, of the second of two, of the second of three, and a single point.
-pub known_middles : map middle_of_line ((at 0 ∷ at 7 ∷ []) ∷ (at 0 ∷ at 4 ∷ at 10 ∷ []) ∷ (at 0 ∷ at 1 ∷ at 5 ∷ at 50 ∷ []) ∷ (at 9 ∷ []) ∷ [])
+pub known_middles : map middle_of_line ((at 0 ∷ at 7 ∷ []) ∷ (at 0 ∷ at 4 ∷ at 10 ∷ []) ∷ (at 0 ∷ at 1 ∷ at 5 ∷ at 50 ∷ []) ∷
+    (at 9 ∷ []) ∷ [])
     ≡ half 7 ∷ half 14 ∷ half 6 ∷ half 18 ∷ []
 known_middles = refl
 
@@ -111,7 +112,8 @@ abbrev grid : Grid
 grid = record { step = 100; left = 30000; right = 30100; top = 30000; bottom = 30100 }
 
 -- On the left the lesser x comes first in a row, on the right the greater one. What is at the middle, 5 mm, is right of it.
-pub known_orders : (numbers (labels_of_side side.Left grid labels) ≡ 3 ∷ 1 ∷ 5 ∷ []) × (numbers (labels_of_side side.Right grid labels) ≡ 2 ∷ 4 ∷ [])
+pub known_orders : (numbers (labels_of_side side.Left grid labels) ≡ 3 ∷ 1 ∷ 5 ∷ [])
+    × (numbers (labels_of_side side.Right grid labels) ≡ 2 ∷ 4 ∷ [])
 known_orders = (refl, refl)
 
 -- A row is at what it names, unless that is taken or others need it.

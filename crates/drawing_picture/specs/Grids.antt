@@ -43,7 +43,8 @@ grid_between left right top bottom =
 
 -- The grid of an extent.
 abbrev pub grid_around_extent : Extent → Grid
-grid_around_extent extent = grid_between (grid_coordinate extent.min.x) (grid_coordinate extent.max.x)
+grid_around_extent extent = grid_between (grid_coordinate extent.min.x)
+    (grid_coordinate extent.max.x)
     (grid_coordinate extent.min.y) (grid_coordinate extent.max.y)
 
 -- The number of lines of a step from one coordinate to another.
@@ -77,7 +78,7 @@ grid_line axis.Column g at =
     column_start at g.top g.bottom ++ (coordinate_text at ++ coordinate_end)
 grid_line axis.Row g at = row_start at g.left g.right ++ (coordinate_text at ++ coordinate_end)
 
--- So many lines of a grid, at multiples of its step from the given coordinate.
+-- A number of lines of a grid, at multiples of its step from the given coordinate.
 abbrev pub grid_lines : Axis → Grid → (from count : ℕ) → List ℕ
 grid_lines axis g from count =
     flat_map (λ k. grid_line axis g (from + k * g.step)) (range_with_len 0 count)

@@ -41,7 +41,7 @@ proof_words = codes "No thread over a piece has fewer stitches than the one that
 abbrev pub proof_top : DesignValue → Area → List ℕ
 proof_top design area = top_text area design.label proof_words
 
--- That no thread has fewer stitches, and why, without the last line.
+-- The lines that say that no thread has fewer stitches, and why, without the last line.
 abbrev pub reason_text : List ℕ
 reason_text = codes "<text y='24'>No thread over a piece has fewer stitches.</text>"
     ++ (10 ∷ codes "<text class='small' y='46'>Dashes: what is sewn again. Bands of one colour:"

@@ -17,7 +17,8 @@ joined_alike f g (t ∷ rest) p q same =
     (λ z. ap₂ (λ b a. point_after b a (f z)) (same t.b) (same t.a) ∙ ap (point_after (g t.b) (g t.a)) (same z))
 
 -- One more step comes last.
-one_more_step : (steps : List Joint) (t : Joint) (z : GridPoint) → point_after t.b t.a (point_by_steps steps z) ≡ point_by_steps (steps ++ t ∷ []) z
+one_more_step : (steps : List Joint) (t : Joint) (z : GridPoint) → point_after t.b t.a (point_by_steps steps z)
+    ≡ point_by_steps (steps ++ t ∷ []) z
 one_more_step [] t z = refl
 one_more_step (s ∷ steps) t z = one_more_step steps t (point_after s.b s.a z)
 

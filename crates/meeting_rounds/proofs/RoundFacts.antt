@@ -80,7 +80,8 @@ known_passed = (refl, refl, refl, refl, refl, refl, refl)
 pub known_round_points : MAX_ROUND_POINTS ≡ 65536
 known_round_points = refl
 
-pub known_too_long : map (λ counts. nat_lt MAX_ROUND_POINTS (sum_by (λ n. n) counts)) ((65536 ∷ []) ∷ (65536 ∷ 1 ∷ []) ∷ []) ≡ false ∷ true ∷ []
+pub known_too_long : map (λ counts. nat_lt MAX_ROUND_POINTS (sum_by (λ n. n) counts)) ((65536 ∷ []) ∷ (65536 ∷ 1 ∷ []) ∷ [])
+    ≡ false ∷ true ∷ []
 known_too_long = refl
 
 pub long_lines_rest : (lists : Bool) (gap : ℕ) (lines : List TrackedLine) → are_too_long lines ≡ true → round_acts lists gap lines ≡ no_acts

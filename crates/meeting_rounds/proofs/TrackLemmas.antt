@@ -57,7 +57,8 @@ pub record IsPut (gap : ℕ) (from : Option Point) (coming : List Point) (p : Tr
   pub near : is_near (gap + 1) (grid_point p.at) (segment_as_drawn p) ≡ true
 
 -- a point stands for q and a run of points as drawn after it, which come next
-pub record Stands (gap : ℕ) (coming : List Point) (q : Point) (run rest : List Point) (bounds : PointBounds) (p : TrackedPoint) : Type 0 where
+pub record Stands (gap : ℕ) (coming : List Point) (q : Point) (run rest : List Point) (bounds : PointBounds)
+    (p : TrackedPoint) : Type 0 where
   pub drawn : p.drawn ≡ Some bounds
   pub next : coming ≡ q ∷ (run ++ rest)
   pub has : All (Has bounds) (q ∷ run)
@@ -197,8 +198,10 @@ pub merged_tracks : (gap : ℕ) (from : Option Point) (coming : List Point) (p :
     → Tracks gap from coming (p ∷ points) → Tracks gap from coming (merged_from p points)
 merged_tracks gap from coming p [] tracks = tracks
 merged_tracks gap from coming p (q ∷ points) tracks =
-    by_test (is_same_point p.at q.at) refl (λ same. merged_tracks gap from coming (merged p q) points (joined_tracks gap from coming p q points same tracks))
-    (after_first gap from coming p (q ∷ points) (merged_from q points) (λ x xs begins ends after. merged_tracks gap x xs q points after) tracks)
+    by_test (is_same_point p.at q.at) refl (λ same. merged_tracks gap from coming (merged p q) points
+        (joined_tracks gap from coming p q points same tracks))
+    (after_first gap from coming p (q ∷ points) (merged_from q points)
+        (λ x xs begins ends after. merged_tracks gap x xs q points after) tracks)
   where
     by_test : (b : Bool) → is_same_point p.at q.at ≡ b
         → (is_same_point p.at q.at ≡ true → Tracks gap from coming (merged_from (merged p q) points))
@@ -283,7 +286,8 @@ abbrev pub AreNear : (gap : ℕ) → (SegmentKey → List ℕ) → (line segment
 AreNear gap places line segment points = (k j : ℕ) → j ≡ segment + k
     → All (λ n. NearFirst gap n (drop k points)) (places (record { line = line; segment = j }))
 
-pub filled_tracks : (gap : ℕ) (places : SegmentKey → List ℕ) (line segment : ℕ) (from : Option Point) (coming : List Point) (p : TrackedPoint)
+pub filled_tracks : (gap : ℕ) (places : SegmentKey → List ℕ) (line segment : ℕ) (from : Option Point) (coming : List Point)
+    (p : TrackedPoint)
     (points : List TrackedPoint) → AreNear gap places line segment (p ∷ points) → Tracks gap from coming (p ∷ points)
     → Tracks gap from coming (filled_from places line segment p points)
 filled_tracks gap places line segment from coming p [] near tracks = tracks

@@ -36,7 +36,7 @@ use Rattle.met_drawings.specs.declared.meet_fault.MeetFault.{MeetFault}
 use Rattle.met_drawings.specs.declared.meet_fault.VanishedLine.{VanishedLine}
 use Rattle.met_drawings.specs.declared.meeting.MetDrawing.{MetDrawing}
 use Rattle.met_drawings.specs.declared.meeting_counts.MeetingCounts.{MeetingCounts}
-use Rattle.met_drawings.specs.Copies.{counts_of, uncopied_lines}
+use Rattle.met_drawings.specs.Copies.{part_counts_of, uncopied_lines}
 use Rattle.met_drawings.specs.ListedMeetings.{settled_by, unless_kept, vanished_after}
 use Rattle.met_drawings.specs.MeetLaws.{LeftAreFound, NothingLeftIsSilence, SecondRunsChangeNothing, WrittenLinesStayNear, is_near_one, no_counts}
 use Rattle.met_drawings.specs.MeetingCounts.{has_moved, is_crossing, is_left, is_put, is_repeat, left_count, meeting_counts_of, points_worked}
@@ -97,7 +97,8 @@ made rule d starts ends met is =
         there = ended.0;
         kept = ended.1;
         drawn = ends_within (drawn_lines (record d { lines = first.0 })) second.0 second.1;
-        joined = ends_within (and_then (joined_drawing second.0) (λ joined. with_starts_and_ends joined worked.starts worked.ends)) third.0 third.1;
+        joined = ends_within (and_then (joined_drawing second.0)
+            (λ joined. with_starts_and_ends joined worked.starts worked.ends)) third.0 third.1;
         counts = refl;
       }),
     )
@@ -121,7 +122,7 @@ kept_again true lines = refl
 kept_again false lines = uncopied_stay lines
 
 kept_ones : (keeps : Bool) (lines : List LineValue)
-    → counts_of keeps (unless_kept keeps lines) ≡ map (λ line. 1) (unless_kept keeps lines)
+    → part_counts_of keeps (unless_kept keeps lines) ≡ map (λ line. 1) (unless_kept keeps lines)
 kept_ones true lines = refl
 kept_ones false lines = uncopied_ones lines
 
@@ -238,7 +239,8 @@ counts_none rule lines none = no_more (no_counts rule lines).crossings
 -- A drawing in which nothing is left meets as it is.
 meets_again : (rule : MeetingRule) (d joined : DrawingValue) (starts ends : List Spot) → UnworkedLinesAreDrawn → LinesAtRestStay
     → left_count rule d.lines ≡ 0 → vanished_after 0 d.lines ≡ None → unless_kept rule.keeps_copies d.lines ≡ d.lines
-    → counts_of rule.keeps_copies d.lines ≡ map (λ line. 1) d.lines → drawn_lines d ≡ Ok d → and_then (joined_drawing d) (λ whole. with_starts_and_ends whole starts ends) ≡ Ok joined
+    → part_counts_of rule.keeps_copies d.lines ≡ map (λ line. 1) d.lines → drawn_lines d ≡ Ok d
+        → and_then (joined_drawing d) (λ whole. with_starts_and_ends whole starts ends) ≡ Ok joined
     → met_of rule d starts ends
     ≡ Ok (record { drawn = d; joined = joined; parts = map (λ line. 1) d.lines; counts = no_counts rule d.lines })
 meets_again rule d joined starts ends drawn rest none there kept ones again whole =
@@ -257,7 +259,7 @@ meets_again rule d joined starts ends drawn rest none there kept ones again whol
     after_joined listing met drawn joined = Ok (record {
       drawn = drawn;
       joined = joined;
-      parts = counts_of rule.keeps_copies listing;
+      parts = part_counts_of rule.keeps_copies listing;
       counts = meeting_counts_of rule d.lines (tracked_lines d.lines) listing met;
     })
 
@@ -289,7 +291,7 @@ second_same in_order stays drawn rest = λ rule d starts ends met limits is none
     (ap (vanished_after 0) (lines_same ∙ sym how.1.kept) ∙ kept_there rule.keeps_copies (listing_of rule d starts ends) how.1.there)
     (subst (λ (ls : List LineValue). unless_kept rule.keeps_copies ls ≡ ls) (how.1.kept ∙ sym lines_same)
     (kept_again rule.keeps_copies (listing_of rule d starts ends)))
-    (subst (λ (ls : List LineValue). counts_of rule.keeps_copies ls ≡ map (λ line. 1) ls) (how.1.kept ∙ sym lines_same)
+    (subst (λ (ls : List LineValue). part_counts_of rule.keeps_copies ls ≡ map (λ line. 1) ls) (how.1.kept ∙ sym lines_same)
     (kept_ones rule.keeps_copies (listing_of rule d starts ends)))
     (ap drawn_lines same ∙ how.1.drawn)
     (ap₂ (λ (ss es : List Spot). and_then (joined_drawing met.drawn) (λ whole. with_starts_and_ends whole ss es))

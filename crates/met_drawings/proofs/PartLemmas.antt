@@ -194,7 +194,8 @@ module _ (f : Point → Bool) (g : LineValue → Bool) (block : ℕ)
   line_passes : (passed : List PassedSegment) (points : List Point) → list_all f points ≡ true
       → list_all g (parts_of passed block points) ≡ true
   line_passes passed [] all = refl
-  line_passes passed (p ∷ rest) all = parts_pass passed (p ∷ []) p rest (ap (λ (x : Bool). x && true) (first_true _ _ all)) (second_true _ _ all)
+  line_passes passed (p ∷ rest) all = parts_pass passed (p ∷ []) p rest (ap (λ (x : Bool). x && true) (first_true _ _ all))
+      (second_true _ _ all)
 
 -- Lines without copies are near those as drawn.
 pub uncopied_near : (gap : ℕ) (drawn : List LineValue) (passed : List PassedSegment) (lines : List LineValue)

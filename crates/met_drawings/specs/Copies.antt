@@ -57,8 +57,8 @@ counts_after passed (line ∷ rest) = length (parts_of passed line.block line.po
     ∷ counts_after (passed ++ passed_by line.block line.points) rest
 
 -- The number of lines that become of each line, unless copies are kept: then it is one.
-abbrev pub counts_of : (keeps_copies : Bool) → List LineValue → List ℕ
-counts_of keeps_copies lines =
+abbrev pub part_counts_of : (keeps_copies : Bool) → List LineValue → List ℕ
+part_counts_of keeps_copies lines =
     if keeps_copies then map (λ line. 1) lines else counts_after [] lines
 
 -- Lines without the segments that copy an earlier one of their block.

@@ -1,5 +1,5 @@
--- Laws of drawings whose lines meet, as `snap` and `cross` write them. Lengths are whole tenths of a
--- millimetre.
+-- Laws of drawings whose lines meet, as `snap` and `cross` write them. Lengths are whole tenths of
+-- a millimetre.
 use Rattle.std.specs.Prelude.{◌≡◌, ℕ, ◌==◌, Bool, true, not, ◌&&◌, List, map, Ok}
 use Rattle.std.specs.List.{list_all, list_any}
 use Rattle.line_graph.specs.Drawings.{DrawingValue, KeepsDrawingLimits}
@@ -20,8 +20,8 @@ LeftAreFound = (rule : MeetingRule) (d : DrawingValue) (starts ends : List Spot)
     → met.counts.left ≡ left_count rule met.drawn.lines
 
 -- Where nothing is left, all that is found in the lines that are written are crossings that aren't
--- listed, and copies that are kept: no points that nearly meet, no point beside or on a segment that
--- doesn't list it, and no overlap.
+-- listed, and copies that are kept: no points that nearly meet, no point beside or on a segment
+-- that doesn't list it, and no overlap.
 abbrev pub NothingLeftIsSilence : Type 0
 NothingLeftIsSilence = (rule : MeetingRule) (d : DrawingValue) (starts ends : List Spot)
     (met : MetDrawing) → KeepsDrawingLimits d → met_of rule d starts ends ≡ Ok met

@@ -12,7 +12,7 @@ use Rattle.line_graph.specs.GrowingDrawings.{and_then, draw_is_out_of_memory}
 use Rattle.line_graph.specs.JoinedDrawings.{joined_drawing}
 use Rattle.meeting_rounds.specs.declared.rounds.WorkedLines.{WorkedLines}
 use Rattle.meeting_rounds.specs.TrackedLines.{lines_as_worked}
-use Rattle.met_drawings.specs.Copies.{counts_of}
+use Rattle.met_drawings.specs.Copies.{part_counts_of}
 use Rattle.met_drawings.specs.declared.listed_meetings.MeetingRule.{MeetingRule}
 use Rattle.met_drawings.specs.declared.meet_fault.MeetFault.{MeetFault}
 use Rattle.met_drawings.specs.declared.meet_fault.MeetFault.TheVariants as fault
@@ -44,7 +44,7 @@ abbrev pub met_value : MeetingRule → List LineValue → WorkedLines → List L
 met_value rule lines worked met drawn joined = record {
   drawn = drawn;
   joined = joined;
-  parts = counts_of rule.keeps_copies (lines_as_worked worked.lines);
+  parts = part_counts_of rule.keeps_copies (lines_as_worked worked.lines);
   counts = meeting_counts_of rule lines worked.lines (lines_as_worked worked.lines) met;
 }
 

@@ -1,4 +1,4 @@
-ghost use Rattle.met_drawings.specs.Copies.{counts_after, part_after, counts_of, part_if, parts_from, parts_of, passed_by, passed_from, uncopied_lines};
+ghost use Rattle.met_drawings.specs.Copies.{counts_after, part_after, part_counts_of, part_if, parts_from, parts_of, passed_by, passed_from, uncopied_lines};
 ghost use Rattle.std.specs.Prelude.{◌≡◌, ◌++◌, ◌∷◌, [], IfOk, OnOk, map, true};
 
 use crate::passed_segments::{PassedSegment, PassedSegments};
@@ -27,7 +27,7 @@ pub(crate) fn part_counts(
     keeps_copies: bool,
     lines: &[Line],
 ) -> Result<Items<usize>, Memory>
-    ensures { IfOk result (λ counts. counts ≡ counts_of keeps_copies lines.now) }
+    ensures { IfOk result (λ counts. counts ≡ part_counts_of keeps_copies lines.now) }
 {
     if keeps_copies {
         let ones = ones(alloc, lines)?;

@@ -1,6 +1,6 @@
--- What the arguments of stitch_picture request: the picture of a file, with the two sides of a hoop,
--- a colour or neither, the picture of a proof, the usage text or the version; or the first argument that isn't
--- understood.
+-- What the arguments of stitch_picture request: the picture of a file, with the two sides of a
+-- hoop, a colour or neither, the picture of a proof, the usage text or the version; or the first
+-- argument that isn't understood.
 use Rattle.std.specs.Prelude.{ℕ, List, [], ◌∷◌, Option, Some, None, Result, Ok, Err, bytes_eq, codes, option_map, if◌then◌else◌}
 use Rattle.program_texts.specs.MistakenWords.{MistakenWord, then_with, with_some_mistake}
 use Rattle.design_picture.specs.declared.hoop.Hoop.{Hoop}
@@ -14,8 +14,8 @@ use Rattle.picture_commands.specs.declared.words.ProofNames.{ProofNames}
 use Rattle.picture_commands.specs.Mistakes.{mistake_at}
 use Rattle.picture_commands.specs.Names.{cloth_if, name_or_mistake, picture_or_mistake, plain_digits, side_if, side_word, unless_input}
 
--- A file whose picture is requested: its name, the name of the picture, and the hoop or none, or the
--- colour of a plain picture.
+-- A file whose picture is requested: its name, the name of the picture, and the hoop or none, or
+-- the colour of a plain picture.
 pub record RequestedFile : Type 0 where
   pub input : List ℕ
   pub output : List ℕ

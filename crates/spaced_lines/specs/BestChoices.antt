@@ -80,8 +80,8 @@ abbrev pub room_of : (Point → Bool) → List Point → ℕ
 room_of stays [] = 0
 room_of stays (p ∷ rest) = room_after (stays p) (room_of stays rest)
 
--- The choice whose first stitch leads from p to the point with an index, and leaves out those before
--- it.
+-- The choice whose first stitch leads from p to the point with an index, and leaves out those
+-- before it.
 abbrev pub choice_at : (p : Point) → List Point → List Best → ℕ → Best
 choice_at p after bests k = best_with p (get_or after k origin) k (get_or bests k no_stitch)
 

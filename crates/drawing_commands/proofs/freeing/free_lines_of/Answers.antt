@@ -4,7 +4,8 @@ use Rattle.drawing_commands.proofs.SpaceLemmas.{space_ordered}
 use Rattle.drawing_commands.proofs.freeing.free_lines_of.Goals as goal
 
 pub returns-in-Err : goal.returns-in-Err
-returns-in-Err c = fault_refused draw_is_out_of_memory _ (free_made (free_order c.args.names.input.now c.args.names.output.now) c.args.text.now.comments) _ _ _
+returns-in-Err c = fault_refused draw_is_out_of_memory _
+    (free_made (free_order c.args.names.input.now c.args.names.output.now) c.args.text.now.comments) _ _ _
     (λ why is. is) (rw (c.starts.ensures, c.ends.ensures) at c.in-Err.ensures.answer) c.space_failure.ensures
 
 pub free_product-requires-clause-whole : goal.free_product-requires-clause-whole

@@ -5,7 +5,8 @@ use Rattle.drawing_commands.proofs.spacing.space_lines_of.Goals as goal
 
 pub returns-in-Err : goal.returns-in-Err
 returns-in-Err c = fault_refused draw_is_out_of_memory _
-    (space_made (space_order c.args.limits c.args.names.input.now c.args.names.output.now) c.args.text.now.comments c.args.text.now.lines.drawn.drawing) _ _ _
+    (space_made (space_order c.args.limits c.args.names.input.now c.args.names.output.now) c.args.text.now.comments
+    c.args.text.now.lines.drawn.drawing) _ _ _
     (λ why is. is) (rw (c.starts.ensures, c.ends.ensures) at c.in-Err.ensures.answer) c.space_failure.ensures
 
 pub space_product-requires-clause-whole : goal.space_product-requires-clause-whole

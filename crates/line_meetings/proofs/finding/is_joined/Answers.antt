@@ -12,7 +12,8 @@ returns-then-do_meet c =
     let segments = flat_map (λ r. r) c.args.regions.now in
     sym (ap (λ (joined : Bool). joined || are_joined_around c.args.gap segments c.args.q.now c.args.p.now)
     (joined_around c.args.gap segments c.args.p.now c.args.q.now
-    ∙ ap (λ (steps : List Joint). is_same_grid_point (point_by_steps steps c.args.p.now.a) (point_by_steps steps c.args.q.now.a)) (sym c.requires)
+    ∙ ap (λ (steps : List Joint). is_same_grid_point (point_by_steps steps c.args.p.now.a) (point_by_steps steps c.args.q.now.a))
+        (sym c.requires)
     ∙ sym c.do_meet.ensures ∙ c.if-do_meet.true))
 
 pub returns : goal.returns
@@ -20,7 +21,8 @@ returns c =
     let segments = flat_map (λ r. r) c.args.regions.now in
     sym (ap₂ (λ (one other : Bool). one || other)
     (joined_around c.args.gap segments c.args.p.now c.args.q.now
-    ∙ ap (λ (steps : List Joint). is_same_grid_point (point_by_steps steps c.args.p.now.a) (point_by_steps steps c.args.q.now.a)) (sym c.requires)
+    ∙ ap (λ (steps : List Joint). is_same_grid_point (point_by_steps steps c.args.p.now.a) (point_by_steps steps c.args.q.now.a))
+        (sym c.requires)
     ∙ sym c.do_meet.ensures ∙ c.if-do_meet.false)
     (joined_around c.args.gap segments c.args.q.now c.args.p.now
     ∙ ap (λ (steps : List Joint). is_same_grid_point (point_by_steps steps c.args.q.now.a) (point_by_steps steps c.args.p.now.a))
