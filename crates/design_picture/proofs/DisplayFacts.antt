@@ -88,7 +88,7 @@ rim = record { corners = extent; across = 5; down = 1 }
 pub known_outside : (map (is_beyond_hoop rim) (point (pos 14) (pos 0) ∷ point (pos 56) (pos 0) ∷ point (pos 30) (negsuc 19)
     ∷ point (pos 30) (pos 181) ∷ []) ≡ true ∷ true ∷ true ∷ true ∷ [])
     × (map (is_beyond_hoop rim) (point (pos 15) (pos 0) ∷ point (pos 55) (pos 0) ∷ point (pos 30) (negsuc 18) ∷ point (pos 30)
-        (pos 180) ∷ [])
+    (pos 180) ∷ [])
     ≡ false ∷ false ∷ false ∷ false ∷ [])
 known_outside = (refl, refl)
 

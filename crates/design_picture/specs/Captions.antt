@@ -28,7 +28,7 @@ key_text =
     ++ (10 ∷ codes "<text class='small' y='153'>Sewn again: beside the first, in dashes.</text>"
     ++ (codes "<path fill='none' stroke='#d00' stroke-width='2' d='M345,139h16v16h-16z'/>"
     ++ ended
-        (codes "<text class='small' x='370' y='153'>7 needles or more in a hole</text>"))))))))))))
+    (codes "<text class='small' x='370' y='153'>7 needles or more in a hole</text>"))))))))))))
 
 -- Counts, lengths and the meaning of the marks, before the lines of the legend.
 unfoldable pub caption : Counts → Pen → List ℕ

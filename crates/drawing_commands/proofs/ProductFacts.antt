@@ -26,7 +26,7 @@ pub known_met : (report : MeetReport) (output : List ℕ) (c : TextComments) (d 
     → IsMeetProduct report output c d met p
     → (before : List Piece) × ArePiecesOf d before × ((after : List Piece) × ArePiecesOf met.joined after
     × IsWholeProduct output (comments_of_parts c met.parts) met.drawn met.joined
-        (meet_report report met.counts (length before) (length after)) p)
+    (meet_report report met.counts (length before) (length after)) p)
 known_met report output c d met p is = (is.before, is.before_are, (is.after, is.after_are, is.written))
 
 -- The report counts the pieces that are sewn.

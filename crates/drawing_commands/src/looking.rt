@@ -6,10 +6,10 @@ ghost use Rattle.program_shell.specs.StepOutcomes.{RunsPlan, RunsPurePlan};
 ghost use Rattle.std.specs.Prelude.{IfOk};
 
 use design_model::Memory;
+use drawing_reports::{describe_look, short_spacings};
 use line_graph::pieces;
 use line_meetings::find_meetings;
 use line_sections::lines_extent;
-use drawing_reports::{describe_look, short_spacings};
 use outside_io::Store;
 use piece_stitches::piece_stitches;
 use program_inputs::{LinesRead, lines_in};

@@ -118,7 +118,7 @@ parts_free (b ∷ rest) = by_test (b == 10) refl (parts_between 10 rest) (parts_
     by_test true is parts free = All-cons IsFree [] parts (All-nil (λ (b : ℕ). is_feed b ≡ false)) free
     by_test false is [] free =
         All-cons IsFree (b ∷ []) [] (All-cons (λ (b : ℕ). is_feed b ≡ false) b [] is (All-nil (λ (b : ℕ). is_feed b ≡ false)))
-            (All-nil IsFree)
+        (All-nil IsFree)
     by_test false is (part ∷ parts) free =
         All-cons IsFree (b ∷ part) parts (All-cons (λ (b : ℕ). is_feed b ≡ false) b part is (All-head IsFree part parts free))
         (All-tail IsFree part parts free)
@@ -324,7 +324,7 @@ without_return_same (b ∷ c ∷ rest) ends =
 -- a line that is written after its comments, and the lines after it
 pub line_put : (out total line text : List ℕ) (c : TextComments) → out ++ lines_with c (line ∷ parts_between 10 text) ≡ total
     → (out ++ (comments_by c (line_mark line) ++ (line ++ 10 ∷ []))) ++ lines_with (comments_left c (line_mark line))
-        (parts_between 10 text)
+    (parts_between 10 text)
     ≡ total
 line_put out total line text c is =
     let before : List ℕ = comments_by c (line_mark line) in

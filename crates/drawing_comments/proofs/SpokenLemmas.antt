@@ -339,7 +339,7 @@ drawing_spoken lines = alike_then AlikeBodies SameDrawing (body_from 1 lines) (b
         (ap (λ (ls : List (List (List ℕ))). drawing_after_lines a.version (b.header + 1) empty_draft ls) alike.lines
         ∙ ap (λ (v : Version). drawing_after_lines v (b.header + 1) empty_draft b.lines) alike.version)
         (subst (λ (r : Result DrawingValue DrawFault). Alike SameDrawing r
-            (drawing_after_lines a.version (b.header + 1) empty_draft (spoken a.lines)))
+        (drawing_after_lines a.version (b.header + 1) empty_draft (spoken a.lines)))
         (drawing_closed a.version (a.header + 1) empty_draft a.lines)
         (subst (λ (r : Result DrawingValue DrawFault). Alike SameDrawing (closed (drawing_of_draft a.version) SameDrawing
         (drafts_close a.version) a.version (a.header + 1) empty_draft a.lines) r)

@@ -97,7 +97,7 @@ abbrev pub labelled_on_sides : DrawingValue → (drawn pieces : ℕ) → List Ju
 labelled_on_sides d drawn pieces marks meetings labels =
     drawing_labelled d drawn pieces marks meetings
     (labels_of_side side.Left (grid_of_drawing d) labels)
-        (labels_of_side side.Right (grid_of_drawing d) labels)
+    (labels_of_side side.Right (grid_of_drawing d) labels)
 
 -- The picture of a drawing that has those pieces, whose lines are drawn like that.
 abbrev pub picture_of_pieces : DrawingValue → List PieceValue → List LineValue → List ℕ

@@ -26,7 +26,7 @@ pub record StandApart (bottom least : ℕ) (labels : List Label) : Type 0 where
 abbrev pub SidesHaveLabels : Type 0
 SidesHaveLabels = (g : Grid) (labels : List Label) (test : Label → Bool)
     → passing test (labels_of_side side.Left g labels) + passing test
-        (labels_of_side side.Right g labels)
+    (labels_of_side side.Right g labels)
     ≡ passing test labels
 
 -- Labels stand apart.

@@ -11,11 +11,7 @@ use line_graph::Piece;
 use std::alloc::Global;
 
 /// Returns the report of `free` on pieces and what is found of their ends.
-pub fn describe_free(
-    alloc: Global,
-    pieces: &[Piece],
-    found: &[PieceEnds],
-) -> Result<Bytes, Memory>
+pub fn describe_free(alloc: Global, pieces: &[Piece], found: &[PieceEnds]) -> Result<Bytes, Memory>
     ensures { IfOk result (λ text. text ≡ free_report pieces.now found.now) }
 {
     let mut text = Bytes::new(alloc);

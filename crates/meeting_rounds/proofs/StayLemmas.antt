@@ -69,7 +69,7 @@ lines_stay = λ lists gap lines starts ends idle.
     let none : no_acts ≡ round_acts lists gap (tracked_lines lines) =
     none_either (are_too_long (tracked_lines lines)) (acts_on_lines_of lists gap (tracked_lines lines))
     (sym (all_idle lists gap (tracked_at (tracked_lines lines)) (tracked_lines lines) no_acts
-        (meetings_of_lines gap (lines_as_worked (tracked_lines lines)))
+    (meetings_of_lines gap (lines_as_worked (tracked_lines lines)))
     (subst (λ (ls : List LineValue). list_all (λ m. is_passed_over lists m.kind) (meetings_of_lines gap ls) ≡ true)
     (sym (lines_drawn lines)) idle))) in
     idle_stays MAX_ROUNDS lists gap (unworked lines starts ends) no_acts none refl

@@ -199,9 +199,9 @@ pub merged_tracks : (gap : ℕ) (from : Option Point) (coming : List Point) (p :
 merged_tracks gap from coming p [] tracks = tracks
 merged_tracks gap from coming p (q ∷ points) tracks =
     by_test (is_same_point p.at q.at) refl (λ same. merged_tracks gap from coming (merged p q) points
-        (joined_tracks gap from coming p q points same tracks))
+    (joined_tracks gap from coming p q points same tracks))
     (after_first gap from coming p (q ∷ points) (merged_from q points)
-        (λ x xs begins ends after. merged_tracks gap x xs q points after) tracks)
+    (λ x xs begins ends after. merged_tracks gap x xs q points after) tracks)
   where
     by_test : (b : Bool) → is_same_point p.at q.at ≡ b
         → (is_same_point p.at q.at ≡ true → Tracks gap from coming (merged_from (merged p q) points))

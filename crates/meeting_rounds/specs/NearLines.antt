@@ -37,7 +37,7 @@ StaysNear reach room from coming (p ∷ after) =
     (IsAlong room from coming p × StaysNear reach room from coming after)
     ⊎ ((q : Point) × (run rest : List Point) × (coming ≡ q ∷ (run ++ rest))
     × (are_within reach p (q ∷ run) ≡ true) × StaysNear reach room
-        (Some (last_of q run)) rest after)
+    (Some (last_of q run)) rest after)
 
 -- The points of a line after rounds, against those as drawn: what stands for points as drawn is
 -- within twice the gap and 1 of each, and what is listed is within the gap and 1 of its segment.

@@ -240,7 +240,7 @@ counts_none rule lines none = no_more (no_counts rule lines).crossings
 meets_again : (rule : MeetingRule) (d joined : DrawingValue) (starts ends : List Spot) → UnworkedLinesAreDrawn → LinesAtRestStay
     → left_count rule d.lines ≡ 0 → vanished_after 0 d.lines ≡ None → unless_kept rule.keeps_copies d.lines ≡ d.lines
     → part_counts_of rule.keeps_copies d.lines ≡ map (λ line. 1) d.lines → drawn_lines d ≡ Ok d
-        → and_then (joined_drawing d) (λ whole. with_starts_and_ends whole starts ends) ≡ Ok joined
+    → and_then (joined_drawing d) (λ whole. with_starts_and_ends whole starts ends) ≡ Ok joined
     → met_of rule d starts ends
     ≡ Ok (record { drawn = d; joined = joined; parts = map (λ line. 1) d.lines; counts = no_counts rule d.lines })
 meets_again rule d joined starts ends drawn rest none there kept ones again whole =

@@ -48,7 +48,7 @@ among_more fewer more s among t is = passed_in_more more s t ∙ weaker (is_pass
 among_both : (fewer more : List PassedSegment) (s : PassedSegment) → AreAmong fewer more → AreAmong (fewer ++ s ∷ []) (more ++ s ∷ [])
 among_both fewer more s among t is =
     passed_in_more more s t ∙ either (is_passed_in fewer t) (is_passed_in more t) (is_that s t) (among t)
-        (sym (passed_in_more fewer s t) ∙ is)
+    (sym (passed_in_more fewer s t) ∙ is)
   where
     either : (a b c : Bool) → (a ≡ true → b ≡ true) → (a || c) ≡ true → (b || c) ≡ true
     either true b c leads h = ap (λ (x : Bool). x || c) (leads refl)
@@ -177,7 +177,7 @@ ones_left passed [] first long = refl
 ones_left passed (line ∷ rest) first long =
     ap₂ (λ (n : ℕ) (ns : List ℕ). n ∷ ns)
     (ap length (one_line passed line (first_part passed (passed_by line.block line.points) (segments_passed rest) first)
-        (first_true _ _ long)))
+    (first_true _ _ long)))
     (ones_left (passed ++ passed_by line.block line.points) rest
     (other_part passed (passed_by line.block line.points) (segments_passed rest) first) (second_true _ _ long))
 

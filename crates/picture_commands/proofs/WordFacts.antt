@@ -78,8 +78,14 @@ ending_as format ending = record format { ending = ending }
 pub known_orders : (m : Meaning) → map (picture_order (ending_as m (codes "dst") ∷ ending_as m (codes "exp") ∷ []))
     ((codes "a.exp" ∷ codes "b.svg" ∷ []) ∷ (codes "a.rw" ∷ codes "b.svg" ∷ [])
     ∷ (codes "a" ∷ codes "b" ∷ codes "c.svg" ∷ []) ∷ [])
-    ≡ Some (showing (record { format = ending_as m
-        (codes "exp"); input = codes "a.exp"; output = codes "b.svg"; hoop = None; cloth = None }))
+    ≡ Some (showing (record {
+      format = ending_as m
+          (codes "exp");
+      input = codes "a.exp";
+      output = codes "b.svg";
+      hoop = None;
+      cloth = None;
+    }))
     ∷ Some (drawing (record { drawing = codes "a.rw"; output = codes "b.svg" }))
     ∷ Some (proving (record { drawing = codes "a"; cert = codes "b"; output = codes "c.svg" })) ∷ []
 known_orders m = refl

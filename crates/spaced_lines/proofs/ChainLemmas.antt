@@ -27,14 +27,14 @@ taken_if new other t h1 = grind (arith, nat_tests)
 next_leaving : (stays : Point → Bool) (rule : SpacingRule) (p : Point) (nearest : Best) (after : List Point) (bests : List Best) (k : ℕ)
     → k < length after → length bests ≡ length after
     → best_leaving stays rule p nearest after bests k ≡ (if is_better (choice_at p after bests k)
-        (best_leaving stays rule p nearest after bests (k + 1)) && may_leave_out stays rule p (take k after)
-        (get_or after k origin) then choice_at p after bests k else best_leaving stays rule p nearest after bests (k + 1))
+    (best_leaving stays rule p nearest after bests (k + 1)) && may_leave_out stays rule p (take k after)
+    (get_or after k origin) then choice_at p after bests k else best_leaving stays rule p nearest after bests (k + 1))
 next_leaving stays rule p nearest after bests k less sized =
     next_over stays rule p nearest after bests k origin no_stitch less sized
     ∙ ap (λ (m : ℕ). if is_better (best_with p (get_or after k origin) m (get_or bests k no_stitch))
-        (best_leaving stays rule p nearest after bests (k + 1)) && may_leave_out stays rule p (take k after)
-        (get_or after k origin) then best_with p (get_or after k origin) m
-        (get_or bests k no_stitch) else best_leaving stays rule p nearest after bests (k + 1))
+    (best_leaving stays rule p nearest after bests (k + 1)) && may_leave_out stays rule p (take k after)
+    (get_or after k origin) then best_with p (get_or after k origin) m
+    (get_or bests k no_stitch) else best_leaving stays rule p nearest after bests (k + 1))
     (length-take-le k after (omega (arith, less)))
 
 -- the end of a chain is better than the best of those that leave out more points
@@ -62,7 +62,7 @@ chain_end_is_best stays rule p nearest after bests n e less sized before chain a
     sym (next_leaving stays rule p nearest after bests e (omega (arith, less, before)) sized
     ∙ taken_if (choice_at p after bests e) (best_leaving stays rule p nearest after bests (e + 1)) _
     (both _ _ (worse stays rule p nearest after bests n e (e + 1) (n - e) less sized (omega (arith, before))
-        (omega (arith)) chain) allowed))
+    (omega (arith)) chain) allowed))
 
 -- points that may be left out: they are not too many, none stays, and a stitch stands for them
 pub may_be_left_out : (stays : Point → Bool) (rule : SpacingRule) (a b : Point) (out : List Point) → length out ≤ MAX_LEFT_OUT

@@ -84,9 +84,7 @@ fn each_meeting_is_found_and_no_other(rt: HostRuntime) -> Result<(), Fail> {
         let drawn = lines(rt.alloc(), drawn)?;
         let found = find_meetings(rt.alloc(), &drawn, gap)?;
         assert_eq!(rt; found.len(), meetings.len());
-        for (meeting, (kind, line, other, (x, y))) in
-            found.as_slice().iter().zip(meetings.iter())
-        {
+        for (meeting, (kind, line, other, (x, y))) in found.as_slice().iter().zip(meetings.iter()) {
             assert_eq!(rt; number_of(meeting.kind), number_of(*kind));
             assert_eq!(rt; meeting.line, *line);
             assert_eq!(rt; meeting.other, *other);

@@ -13,7 +13,7 @@ returns-then-do_meet c =
     sym (ap (λ (joined : Bool). joined || are_joined_around c.args.gap segments c.args.q.now c.args.p.now)
     (joined_around c.args.gap segments c.args.p.now c.args.q.now
     ∙ ap (λ (steps : List Joint). is_same_grid_point (point_by_steps steps c.args.p.now.a) (point_by_steps steps c.args.q.now.a))
-        (sym c.requires)
+    (sym c.requires)
     ∙ sym c.do_meet.ensures ∙ c.if-do_meet.true))
 
 pub returns : goal.returns
@@ -22,7 +22,7 @@ returns c =
     sym (ap₂ (λ (one other : Bool). one || other)
     (joined_around c.args.gap segments c.args.p.now c.args.q.now
     ∙ ap (λ (steps : List Joint). is_same_grid_point (point_by_steps steps c.args.p.now.a) (point_by_steps steps c.args.q.now.a))
-        (sym c.requires)
+    (sym c.requires)
     ∙ sym c.do_meet.ensures ∙ c.if-do_meet.false)
     (joined_around c.args.gap segments c.args.q.now c.args.p.now
     ∙ ap (λ (steps : List Joint). is_same_grid_point (point_by_steps steps c.args.q.now.a) (point_by_steps steps c.args.p.now.a))
