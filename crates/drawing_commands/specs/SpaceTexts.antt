@@ -2,7 +2,7 @@
 -- down.
 use Rattle.std.specs.Prelude.{ℕ, ◌/◌, List, ◌++◌, codes, decimal}
 use Rattle.design_model.specs.TextLines.{newline}
-use Rattle.drawing_reports.specs.declared.length_span.LengthSpan.{LengthSpan}
+use Rattle.drawing_reports.specs.declared.length_spans.LengthSpan.{LengthSpan}
 
 -- The numbers of points and of stitches.
 abbrev pub count_change_text : (points less stitches fewer : ℕ) → List ℕ

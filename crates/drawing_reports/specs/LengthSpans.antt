@@ -4,8 +4,8 @@ use Rattle.std.specs.Prelude.{ℕ, max, min, List, [], ◌∷◌}
 use Rattle.design_model.specs.Lengths.{length_of}
 use Rattle.design_model.specs.declared.point.Point.{Point}
 use Rattle.line_sections.specs.Lines.{LineValue}
-use Rattle.drawing_reports.specs.declared.length_span.LengthSpan.{LengthSpan}
-use Rattle.drawing_reports.specs.declared.length_span.TheConstants.{NO_LENGTH}
+use Rattle.drawing_reports.specs.declared.length_spans.LengthSpan.{LengthSpan}
+use Rattle.drawing_reports.specs.declared.length_spans.TheConstants.{NO_LENGTH}
 
 -- The span of no length.
 abbrev pub no_span : LengthSpan

@@ -3,14 +3,14 @@
 #![tactic(auto)]
 
 mod free_texts;
-mod length_span;
+mod length_spans;
 mod look_texts;
 mod place_texts;
 mod short_segments;
 mod spacing;
 
 pub use free_texts::describe_free;
-pub use length_span::{LengthSpan, length_span};
+pub use length_spans::{LengthSpan, length_span};
 pub use look_texts::describe_look;
 pub use short_segments::short_spacings;
 pub use spacing::{Spacing, Spacings};

@@ -1,6 +1,6 @@
 use Rattle.std.proofs.Common.{◌≡◌, length}
 use Rattle.drawing_reports.specs.LengthSpans.{span_after}
-use Rattle.drawing_reports.proofs.length_span.with_points.Given as goal
+use Rattle.drawing_reports.proofs.length_spans.with_points.Given as goal
 
 -- the span so far, with the points that are left, is that of all
 abbrev pub invariant-loop-rest : goal.invariant-loop-rest

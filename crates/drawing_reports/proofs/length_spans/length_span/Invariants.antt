@@ -1,6 +1,6 @@
 use Rattle.std.proofs.Common.{◌≡◌, length}
 use Rattle.drawing_reports.specs.LengthSpans.{span_along, span_of}
-use Rattle.drawing_reports.proofs.length_span.length_span.Given as goal
+use Rattle.drawing_reports.proofs.length_spans.length_span.Given as goal
 
 -- the span so far, with the lines that are left, is that of all
 abbrev pub invariant-loop-rest : goal.invariant-loop-rest
