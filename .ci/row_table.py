@@ -20,9 +20,9 @@ USAGE = {
         "       stitch hoop FILE WIDTH HEIGHT", "       stitch sample N DRAWING", "       stitch migrate DRAWING OUT",
         "       stitch trace FILE DRAWING", "       stitch double DRAWING OUT CERT"),
     "stitch_picture": text(
-        "usage: stitch_picture FILE OUT.svg [WIDTH HEIGHT]", "       stitch_picture FILE OUT.svg plain[=RRGGBB]",
-        "       stitch_picture DRAWING OUT.svg",
-        "       stitch_picture DRAWING CERT OUT.svg", "       stitch_picture --help", "       stitch_picture --version"),
+        "usage: stitch_picture FILE OUT.svg [WIDTH HEIGHT] [size=WxH]",
+        "       stitch_picture FILE OUT.svg plain[=RRGGBB] [size=WxH]", "       stitch_picture DRAWING OUT.svg [size=WxH]",
+        "       stitch_picture DRAWING CERT OUT.svg [size=WxH]", "       stitch_picture --help", "       stitch_picture --version"),
     "stitch_drawing": text(
         "usage: stitch_drawing look DRAWING [GAP]", "       stitch_drawing snap GAP DRAWING OUT [--keep]",
         "       stitch_drawing cross DRAWING OUT [--keep]",
@@ -151,6 +151,16 @@ row("usage of stitch_picture, with files there", HERE, misused("stitch_picture")
     ("stitch_picture a.lst b.svg plane", "plane: needs the ending .svg"),
     ("stitch_picture a.lst b.svg 10 10 plain", "plain: not understood"),
     ("stitch_picture a.rw a.svg plain", "a.rw: no format has this ending"),
+    *[(f"stitch_picture a.lst b.svg size={size}", f"size={size}: needs WxH, each from 10 to 2000")
+      for size in ("", "210", "x", "9x10", "10x9", "2001x10", "10x2001", "10x10x10", "10X10", "1.5x20", "-10x10")],
+    ("stitch_picture a.rw a.cert b.svg size=a4", "size=a4: needs WxH, each from 10 to 2000"),
+    ("stitch_picture a.rw b.svg size=10", "size=10: needs WxH, each from 10 to 2000"),
+    ("stitch_picture a.lst b.svg 10 10 size=10", "size=10: needs WxH, each from 10 to 2000"),
+    ("stitch_picture a.lst b.svg plain size=10", "size=10: needs WxH, each from 10 to 2000"),
+    ("stitch_picture a.lst b.txt size=10", "b.txt: needs the ending .svg"), ("stitch_picture a.lst size=10x10", "size=10x10: needs the ending .svg"),
+    ("stitch_picture a.lst b.svg size=10x10 plain", "size=10x10: from 1 to 100000"),
+    ("stitch_picture a.lst b.svg 10 10 size=10x10 11", "size=10x10: not understood"),
+    ("stitch_picture a.rw a.svg 10 10 size=10x10", "a.rw: no format has this ending"),
     ("stitch_picture a.svg a.svg", "a.svg: is an input"), ("stitch_picture a.rw a.svg 10 10", "a.rw: no format has this ending"),
     ("stitch_picture a.rw a.svg a.svg", "a.svg: is an input"), ("stitch_picture a.svg a.cert a.svg", "a.svg: is an input"),
     ("stitch_picture a.rw a.cert b.txt", "b.txt: needs the ending .svg"),
@@ -1161,6 +1171,10 @@ row("a picture of each format", {f"a.{ending}": make(*SHOWN) for ending, make in
     done("stitch_picture a.lst a.svg 200 100", "", {"a.svg": A_PICTURE}),
     done("stitch_picture a.lst p.svg plain", "", {"p.svg": A_PICTURE}),
     done("stitch_picture a.lst q.svg plain=ffffff", "", {"q.svg": SameAs("p.svg")}),
+    done("stitch_picture a.lst r.svg size=210x297", "", {"r.svg": A_PICTURE}),
+    done("stitch_picture a.lst s.svg 200 100 size=10x2000", "", {"s.svg": A_PICTURE}),
+    done("stitch_picture a.lst t.svg plain size=2000x10", "", {"t.svg": A_PICTURE}),
+    done("stitch_picture a.lst u.svg plain=ffffff size=2000x10", "", {"u.svg": SameAs("t.svg")}),
     *[done(f"stitch_picture a.{ending} {ending}.svg", "", {f"{ending}.svg": SameAs("lst.svg")})
       for ending in ("dst", "exp", "pec", "pes")],
     *[done(f"stitch_picture a.{ending} {ending}.svg 200 100", "", {f"{ending}.svg": SameAs("a.svg")})
@@ -1168,7 +1182,9 @@ row("a picture of each format", {f"a.{ending}": make(*SHOWN) for ending, make in
 
 row("a picture replaces a file", {"a.rw": LINE, "a.cert": LINE_CERT, "a.svg": "old picture"},
     done("stitch_picture a.rw a.svg", "", {"a.svg": A_PICTURE}),
-    done("stitch_picture a.rw a.cert a.svg", "", {"a.svg": A_PICTURE}))
+    done("stitch_picture a.rw a.cert a.svg", "", {"a.svg": A_PICTURE}),
+    done("stitch_picture a.rw b.svg size=210x297", "", {"b.svg": A_PICTURE}),
+    done("stitch_picture a.rw a.cert c.svg size=297x210", "", {"c.svg": A_PICTURE}))
 
 
 # ---- outputs that can't be written ----

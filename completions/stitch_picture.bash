@@ -1,7 +1,7 @@
 # Completions of stitch_picture for bash: a stitch file or a drawing, the certificate of a drawing, and a picture to write.
 # Folders are offered too.
 _stitch_picture() {
-    local word=${COMP_WORDS[COMP_CWORD]} file endings second=svg third=
+    local word=${COMP_WORDS[COMP_CWORD]} file endings second=svg third= words=
     [[ ${COMP_WORDS[1]-} == *.[rR][wW] ]] && second='[cC][eE][rR][tT]|svg' third=svg
     compopt -o filenames 2>/dev/null
     COMPREPLY=()
@@ -12,14 +12,16 @@ _stitch_picture() {
     case $COMP_CWORD in
         1) endings='[dD][sS][tT]|[eE][xX][pP]|[pP][eE][cCsS]|[lL][sS][tT]|[rR][wW]' ;;
         2) endings=$second ;;
-        3) endings=$third
-            if [[ -z $third ]]; then
-                compopt -o nospace 2>/dev/null
-                mapfile -t COMPREPLY < <(compgen -W 'plain plain=' -- "$word")
-            fi ;;
+        3) endings=$third words=size=
+            [[ -n $third ]] || words='plain plain= size=' ;;
+        4 | 5) words=size= ;;
     esac
+    if [[ -n $words ]]; then
+        compopt -o nospace 2>/dev/null
+        mapfile -t COMPREPLY < <(compgen -W "$words" -- "$word")
+    fi
     [ -n "${endings-}" ] || return
-    mapfile -t COMPREPLY < <(compgen -d -- "$word")
+    mapfile -t -O "${#COMPREPLY[@]}" COMPREPLY < <(compgen -d -- "$word")
     while IFS= read -r file; do
         [[ $file =~ \.($endings)$ ]] && COMPREPLY+=("$file")
     done < <(compgen -f -- "$word")

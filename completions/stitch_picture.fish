@@ -18,5 +18,6 @@ complete -c stitch_picture -n '__stitch_picture_at 2' -a '(__stitch_picture_file
 complete -c stitch_picture -n '__stitch_picture_at 2; and __stitch_picture_drawing' -a "(__stitch_picture_files '(?i:cert)')"
 complete -c stitch_picture -n '__stitch_picture_at 3; and __stitch_picture_drawing' -a '(__stitch_picture_files svg)'
 complete -c stitch_picture -n '__stitch_picture_at 3; and not __stitch_picture_drawing' -a 'plain plain=' -d 'the thread alone'
+complete -c stitch_picture -n '__stitch_picture_at 3; or __stitch_picture_at 4; or __stitch_picture_at 5' -a 'size=' -d 'millimetres to fit, WxH'
 complete -c stitch_picture -n '__stitch_picture_at 1' -l help -d 'the usage text'
 complete -c stitch_picture -n '__stitch_picture_at 1' -l version -d 'the version'

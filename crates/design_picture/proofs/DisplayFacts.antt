@@ -1,5 +1,5 @@
 -- The constants of pictures of designs, and values at their bounds. Lengths are in tenths of a millimetre.
-use Rattle.std.proofs.Common.{◌≡◌, ℕ, pos, negsuc, true, false, List, [], ◌∷◌, Some, None, codes, ◌++◌, map, refl}
+use Rattle.std.proofs.Common.{◌≡◌, pos, negsuc, true, false, List, [], ◌∷◌, Some, None, codes, ◌++◌, map, refl}
 use Rattle.std.specs.Fmt.{digits}
 use Rattle.design_picture.proofs.Names.{DesignValue, strokes_of}
 use Rattle.design_picture.proofs.PictureFacts.{point, sewn}
@@ -59,9 +59,10 @@ extent = record { min = point (pos 10) (negsuc 19); max = point (pos 60) (pos 18
 
 -- A hoop of 10 mm by 20 mm around it: half of 5 mm and 6 mm at a side, and 6 mm above, where the hoop is shorter. Of 30.4 mm, half of
 -- 10.3 mm is rounded up.
-pub known_areas : (area_of (Some extent) (record { width = 100; height = 200 }) 1
-    ≡ record { corners = extent; side = 85; above = 60; lines = 1 })
-    × (area_of (Some extent) (record { width = 40; height = 304 }) 3 ≡ record { corners = extent; side = 60; above = 112; lines = 3 })
+pub known_areas : (area_of (Some extent) (record { width = 100; height = 200 }) 1 None
+    ≡ record { corners = extent; side = 85; above = 60; lines = 1; size = None })
+    × (area_of (Some extent) (record { width = 40; height = 304 }) 3 (Some (record { width = 50; height = 70 }))
+    ≡ record { corners = extent; side = 60; above = 112; lines = 3; size = Some (record { width = 50; height = 70 }) })
 known_areas = (refl, refl)
 
 -- The hoop of 10 mm by 20 mm begins 2.5 mm left of the design and 0.05 mm below its upper side. It is red where the design doesn't fit.

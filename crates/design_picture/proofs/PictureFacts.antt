@@ -102,5 +102,6 @@ known_hoops = refl
 
 -- 70 mm by 3 mm with two lines of legend: 6 mm around, and 19 mm and two lines of 2.8 mm below
 pub known_sheet : sheet_of (area_of (Some (record { min = point (negsuc 0) (pos 7); max = point (pos 699) (pos 37) }))
-    (record { width = 0; height = 0 }) 2) ≡ record { corner = point (negsuc 0) (pos 7); width = 820; height = 396 }
+    (record { width = 0; height = 0 }) 2 (Some (record { width = 210; height = 297 })))
+    ≡ record { corner = point (negsuc 0) (pos 7); width = 820; height = 396; size = Some (record { width = 210; height = 297 }) }
 known_sheet = refl

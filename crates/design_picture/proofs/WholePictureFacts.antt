@@ -1,16 +1,16 @@
 -- The picture of a design in a hoop that isn't a square, entire and by hand. A stitch is sewn four times, two threads are next to each
 -- other in the palette, and a stitch of 0.6 mm hides its needle hole. Points are in tenths of a millimetre.
-use Rattle.std.proofs.Common.{◌≡◌, ℕ, List, pos, negsuc, [], ◌∷◌, ◌++◌, Some, codes, refl}
+use Rattle.std.proofs.Common.{◌≡◌, ℕ, List, pos, negsuc, [], ◌∷◌, ◌++◌, Some, None, codes, refl}
 use Rattle.std.specs.Fmt.{digits}
-use Rattle.design_picture.proofs.Names.{DesignValue}
+use Rattle.design_picture.proofs.Names.{DesignValue, pen_of}
 use Rattle.design_picture.proofs.PictureFacts.{point}
 use Rattle.design_model.specs.declared.command.Command.TheVariants.{Stitch, Jump}
 use Rattle.design_model.specs.declared.command.Command.TheVariants as command
 use Rattle.design_picture.specs.Captions.{block_start, block_words, caption, group_end, key_text}
 use Rattle.design_picture.specs.Hoops.{hoop_end, hoop_key_end, hoop_key_start, hoop_start, hoop_text, offset_text}
 use Rattle.design_picture.specs.Layers.{path_layer}
-use Rattle.design_picture.specs.Layouts.{below_start, title_text, top_text}
-use Rattle.design_picture.specs.Pictures.{below_text, framed_text, middle_mark, over_text, picture_of, picture_with, seconds_text, sewn_text_of, threads_text}
+use Rattle.design_picture.specs.Layouts.{below_head, below_start, scale_key, title_text, top_text}
+use Rattle.design_picture.specs.Pictures.{below_text, design_area, framed_text, middle_mark, over_text, picture_of, picture_with, seconds_text, sewn_text_of, threads_text}
 use Rattle.design_picture.specs.PlainPictures.{plain_picture_of, plain_picture_with}
 use Rattle.design_picture.specs.StrokeMarks.{piece_number}
 use Rattle.design_picture.specs.Threads.{arc_text, arrow_shape, hole_shape, travel_shape}
@@ -38,9 +38,10 @@ design = record {
 }
 
 -- The design has 4 mm by 7.1 mm and fits a hoop of 10 mm by 5 mm only turned. At a side are 6 mm and half of 1 mm, above 6 mm and half
--- of 2.9 mm, rounded up. The sheet has 56 mm for the texts and 6.5 mm at each side, and 7.1, 15, 19 and three lines of 2.8 mm.
+-- of 2.9 mm, rounded up. The sheet has 56 mm for the texts and 6.5 mm at each side, and 7.1, 15, 19 and three lines of 2.8 mm. It is to
+-- fit 21 cm by 29.7 cm.
 abbrev top : List ℕ
-top = codes "<svg xmlns='http://www.w3.org/2000/svg' width='69.0mm' height='49.5mm' viewBox='10,-20,690,495'>"
+top = codes "<svg xmlns='http://www.w3.org/2000/svg' width='210.0mm' height='297.0mm' viewBox='10,-20,690,495'>"
     ++ (10 ∷ codes "<path fill='#d9d1be' d='M10,-20h690v495h-690z'/>" ++ (10 ∷ style_text
     ++ (codes "<title>Embroidery A&amp;B</title>"
     ++ (10 ∷ codes "<desc>Each thread is sewn from its triangle to its square, along the arrows. "
@@ -89,13 +90,14 @@ marks = codes "<path class='start' d='M10,-20m-23,-9l18,9l-18,9z'/>"
     ++ (10 ∷ codes "<text x='-4' y='-10' text-anchor='end' transform='translate(41,51)'>3</text>"
     ++ (10 ∷ codes "<path class='end' d='M41,51m6,-7h14v14h-14z'/>" ++ 10 ∷ [])))))))))
 
--- The bar of 10 mm, below the lower left corner, the label and the size, the counts, 12.6 and 2.2 mm of thread, and 5 and 4 mm of travel.
+-- The bar of 10 mm, below the lower left corner, the label and the size, the scale, which is 21000 / 690, the counts, 12.6 and 2.2 mm of
+-- thread, and 5 and 4 mm of travel.
 abbrev below : List ℕ
 below = codes "<g transform='translate(10,51) translate(0,75)'>"
     ++ (10 ∷ codes "<path class='line' d='M0,-6v12m0,-6h100m0,-6v12'/><text x='112' y='7'>10 mm</text>"
-    ++ (10 ∷ codes "<text y='44'>A&amp;B 4.0 x 7.1 mm</text>"
+    ++ (10 ∷ codes "<text y='44'>A&amp;B 4.0 x 7.1 mm</text>" ++ (10 ∷ codes "<text x='220' y='7'>scale 3.0 : 1</text>"
     ++ (10 ∷ codes "<text y='72'>needles 10, pieces 3, trims 2, stops 1</text>"
-    ++ (10 ∷ codes "<text y='100'>thread 14.8 mm, travel 9.0 mm</text>" ++ 10 ∷ []))))
+    ++ (10 ∷ codes "<text y='100'>thread 14.8 mm, travel 9.0 mm</text>" ++ 10 ∷ [])))))
 
 -- The lines of the two blocks and of the hoop, and the ends of the groups.
 abbrev legend : List ℕ
@@ -125,24 +127,34 @@ key = codes "<path class='start' d='M2,112l18,9l-18,9z'/><text class='small' x='
 pub known_key : key_text ≡ key
 known_key = refl
 
-pub known_picture : picture_of design (Some (record { width = 100; height = 50 }))
+pub known_picture : picture_of design (Some (record { width = 100; height = 50 })) (Some (record { width = 210; height = 297 }))
     ≡ top ++ (frame ++ (threads ++ (seconds ++ (holes_and_arrows ++ (marks ++ (below ++ (key ++ legend)))))))
-unfolding again_colour_of arc_text around arrow_shape below_start below_text block_start block_words caption coloured_path
-    colour_of_thread digits filled foot_text framed_text group_end head_text hole_shape hoop_end hoop_key_end hoop_key_start hoop_start
-    hoop_text length_of mark_text middle_mark move_text name_of_thread offset_text over_text path_end path_layer path_start picture_with
+unfolding again_colour_of arc_text around arrow_shape below_head below_start below_text block_start block_words caption
+    coloured_path colour_of_thread digits filled foot_text framed_text group_end head_text hole_shape hoop_end hoop_key_end hoop_key_start
+    hoop_start hoop_text length_of mark_text middle_mark move_text name_of_thread offset_text over_text path_end path_layer path_start picture_with
     piece_number seconds_text sewn_text_of shape_at square_of straight_text threads_text title_text top_text travel_shape whole_root
 known_picture = refl
 
--- The thread alone on the colour fafbfc: the sheet has 6 mm around 4 mm by 7.1 mm.
-pub known_plain : plain_picture_of design (codes "fafbfc")
-    ≡ codes "<svg xmlns='http://www.w3.org/2000/svg' width='16.0mm' height='19.1mm' viewBox='10,-20,160,191'>"
+-- The thread alone on the colour fafbfc: the sheet has 6 mm around 4 mm by 7.1 mm, and is to fit a square of 1 cm.
+pub known_plain : plain_picture_of design (codes "fafbfc") (Some (record { width = 10; height = 10 }))
+    ≡ codes "<svg xmlns='http://www.w3.org/2000/svg' width='10.0mm' height='10.0mm' viewBox='10,-20,160,191'>"
     ++ (10 ∷ codes "<path fill='#fafbfc' d='M10,-20h160v191h-160z'/>"
     ++ (10 ∷ codes "<style>.thread{fill:none;stroke-width:3;stroke-linecap:round;stroke-linejoin:round}</style>"
+    ++ (10 ∷ codes "<desc>scale 1 : 1.9</desc>"
     ++ (10 ∷ codes "<title>Embroidery A&amp;B</title>" ++ (10 ∷ codes "<g transform='translate(60,60)'>"
     ++ (10 ∷ codes "<path class='thread' stroke='#9ed67d' d='"
     ++ (10 ∷ codes "M10,-20L40,-20A30,30,0,0,1,10,-20A18,18,0,0,1,40,-20A15,15,0,0,1,10,-20L10,-14'/>"
     ++ (10 ∷ codes "<path class='thread' stroke='#e8a900' d='" ++ (10 ∷ codes "M50,16L50,23" ++ (10 ∷ codes "M41,11"
-    ++ (10 ∷ codes "M41,51'/>" ++ (10 ∷ codes "</g>" ++ (10 ∷ codes "</svg>" ++ 10 ∷ []))))))))))))
+    ++ (10 ∷ codes "M41,51'/>" ++ (10 ∷ codes "</g>" ++ (10 ∷ codes "</svg>" ++ 10 ∷ [])))))))))))))
 unfolding arc_text around coloured_path colour_of_thread digits filled length_of move_text path_end plain_foot_text plain_head_text
     plain_picture_with plain_title_text square_of straight_text whole_root
 known_plain = refl
+
+-- Without a hoop the sheet has 68 mm by 43.7 mm. It is to fit 21 mm by 29.7 cm, 21 cm by 29.7 cm, or is in true size.
+pub known_scale_keys : (scale_key (design_area design None (Some (record { width = 21; height = 297 })) (pen_of design))
+    ≡ codes "<text x='220' y='7'>scale 1 : 3.2</text>" ++ 10 ∷ [])
+    × (scale_key (design_area design None (Some (record { width = 210; height = 297 })) (pen_of design))
+    ≡ codes "<text x='220' y='7'>scale 3.1 : 1</text>" ++ 10 ∷ [])
+    × (scale_key (design_area design None None (pen_of design)) ≡ [])
+unfolding digits filled length_of square_of whole_root
+known_scale_keys = (refl, refl, refl)

@@ -11,8 +11,10 @@ use Rattle.design_picture.specs.declared.hoop.Hoop.{Hoop}
 use Rattle.design_picture.specs.declared.layout.Area.{Area}
 use Rattle.design_picture.specs.declared.layout.TheConstants.{MARGIN, MIN_WIDTH, TEXT_HEIGHT}
 use Rattle.picture_parts.specs.declared.sheet.Sheet.{Sheet}
+use Rattle.picture_parts.specs.declared.sizes.PictureSize.{PictureSize}
 use Rattle.picture_parts.specs.Parts.{ended, escaped_text, filled, mm_text, point_text}
-use Rattle.picture_parts.specs.Sheets.{head_text}
+use Rattle.picture_parts.specs.Sheets.{sheet_head}
+use Rattle.picture_parts.specs.Sizes.{scale_if_sized}
 
 -- The corners of an extent; the origin for both without one.
 abbrev pub corners : Option Extent → Extent
@@ -24,12 +26,13 @@ abbrev pub side_of : ℕ → ℕ → ℕ
 side_of hoop design = (hoop - design + 1) / 2 + MARGIN
 
 -- The area of an extent, with room for a hoop.
-abbrev pub area_of : Option Extent → Hoop → ℕ → Area
-area_of extent hoop lines = record {
+abbrev pub area_of : Option Extent → Hoop → ℕ → Option PictureSize → Area
+area_of extent hoop lines size = record {
   corners = corners extent;
   side = side_of hoop.width (extent_width extent);
   above = side_of hoop.height (extent_height extent);
   lines = lines;
+  size = size;
 }
 
 -- The sheet of an area.
@@ -39,6 +42,7 @@ sheet_of area = record {
   width = max (extent_width (Some area.corners)) MIN_WIDTH + 2 * area.side;
   height = extent_height (Some area.corners) + 2 * area.above + TEXT_HEIGHT
       + LINE_HEIGHT * area.lines;
+  size = area.size;
 }
 
 -- The title and what a picture shows in words, and the group of what is shown, moved by the space
@@ -50,7 +54,7 @@ title_text area label words = filled (codes "<title>Embroidery @</title>" ++ (10
 
 -- The text before what is shown.
 unfoldable pub top_text : Area → (label words : List ℕ) → List ℕ
-top_text area label words = head_text (sheet_of area) ++ title_text area label words
+top_text area label words = sheet_head (sheet_of area) ++ title_text area label words
 
 -- The lower left corner of what is shown.
 abbrev pub lower_left : Extent → Point
@@ -63,3 +67,13 @@ below_start corner above label width height =
     ++ (codes "<path class='line' d='M0,-6v12m0,-6h100m0,-6v12'/><text x='112' y='7'>10 mm</text>"
     ++ (10 ∷ ended (codes "<text y='44'>@ @ x @ mm</text>"))))
     (point_text corner ∷ decimal above ∷ escaped_text label ∷ mm_text width ∷ mm_text height ∷ [])
+
+-- The scale, right of the bar of 10 mm, if the picture is to fit a size.
+abbrev pub scale_key : Area → List ℕ
+scale_key area = scale_if_sized area.size (sheet_of area) (codes "<text x='220' y='7'>")
+    (ended (codes "</text>"))
+
+-- The beginning of the texts below what is shown, with a label and the size of an extent.
+unfoldable pub below_head : Area → List ℕ → (width height : ℕ) → List ℕ
+below_head area label width height =
+    below_start (lower_left area.corners) area.above label width height ++ scale_key area

@@ -1,5 +1,5 @@
 -- The picture of a design: a text of SVG 1.1, the standard of the World Wide Web Consortium. The
--- unit is a tenth of a millimetre, and the picture is shown in true size.
+-- unit is a tenth of a millimetre, and the picture is shown in true size, or fits another one.
 use Rattle.std.specs.Prelude.{ℕ, ◌+◌, ◌*◌, ◌==◌, List, [], ◌∷◌, ◌++◌, Option, Some, None, codes, if◌then◌else◌}
 use Rattle.design_model.specs.declared.bounds.Extent.{Extent}
 use Rattle.design_model.specs.declared.point.Point.{Point}
@@ -15,12 +15,13 @@ use Rattle.design_picture.specs.Captions.{block_line, caption, group_end}
 use Rattle.design_picture.specs.Crowds.{crowds_text}
 use Rattle.design_picture.specs.Hoops.{hoop_as_fits, hoop_key, hoop_text, rim_of}
 use Rattle.design_picture.specs.Layers.{layer_text, path_layer}
-use Rattle.design_picture.specs.Layouts.{area_of, below_start, corners, lower_left, top_text}
+use Rattle.design_picture.specs.Layouts.{area_of, below_head, corners, top_text}
 use Rattle.design_picture.specs.Strokes.{block_end, pen_of, strokes_of}
 use Rattle.hoop_check.specs.declared.fitting.Fit.{Fit}
 use Rattle.hoop_check.specs.declared.fitting.Fit.TheVariants as fit
 use Rattle.hoop_check.specs.Fits.{fit_of}
 use Rattle.picture_parts.specs.declared.marks.Mark.TheVariants as mark
+use Rattle.picture_parts.specs.declared.sizes.PictureSize.{PictureSize}
 use Rattle.picture_parts.specs.AgainColours.{again_colour_of}
 use Rattle.picture_parts.specs.Colours.{colour_of_thread}
 use Rattle.picture_parts.specs.Marks.{mark_text}
@@ -67,9 +68,9 @@ hoop_lines (Some hoop) = 1
 hoop_lines None = 0
 
 -- The area of a design: its legend has a line for each block, and one for a hoop.
-abbrev pub design_area : DesignValue → Option Hoop → Pen → Area
-design_area d hoop pen =
-    area_of (extent_of d) (shown_hoop d hoop) (pen.stops + 1 + hoop_lines hoop)
+abbrev pub design_area : DesignValue → Option Hoop → Option PictureSize → Pen → Area
+design_area d hoop size pen =
+    area_of (extent_of d) (shown_hoop d hoop) (pen.stops + 1 + hoop_lines hoop) size
 
 -- The thread of all blocks of a design.
 abbrev pub thread_paths : DesignValue → List Stroke → List ℕ
@@ -120,18 +121,20 @@ over_text strokes pen = path_layer (codes "hole") layer.Holes strokes
 
 -- The texts below what is shown, with a line of the legend for each block.
 unfoldable pub below_text : DesignValue → Area → List Stroke → Pen → List ℕ
-below_text d area strokes pen = below_start (lower_left area.corners) area.above d.label
-    (extent_width (extent_of d)) (extent_height (extent_of d))
+below_text d area strokes pen =
+    below_head area d.label (extent_width (extent_of d)) (extent_height (extent_of d))
     ++ (caption (counts_of d) pen ++ (layer_text layer.Legend strokes
     ++ (block_line (block_end d pen) ++ group_end)))
 
 -- The picture of strokes that a design has.
-unfoldable pub picture_with : DesignValue → Option Hoop → List Stroke → Pen → List ℕ
-picture_with d hoop strokes pen = design_top d (design_area d hoop pen) ++ (framed_text d hoop
+unfoldable pub picture_with : DesignValue → Option Hoop → Option PictureSize → List Stroke → Pen
+    → List ℕ
+picture_with d hoop size strokes pen = design_top d (design_area d hoop size pen)
+    ++ (framed_text d hoop
     ++ (sewn_text_of d hoop strokes ++ (over_text strokes pen ++ (crowds_text d
-    ++ (below_text d (design_area d hoop pen) strokes pen
+    ++ (below_text d (design_area d hoop size pen) strokes pen
     ++ (hoop_key_if_given d hoop pen ++ foot_text))))))
 
 -- The picture of a design.
-abbrev pub picture_of : DesignValue → Option Hoop → List ℕ
-picture_of d hoop = picture_with d hoop (strokes_of d) (pen_of d)
+abbrev pub picture_of : DesignValue → Option Hoop → Option PictureSize → List ℕ
+picture_of d hoop size = picture_with d hoop size (strokes_of d) (pen_of d)

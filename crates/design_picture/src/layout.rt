@@ -1,11 +1,11 @@
 ghost use Rattle.design_model.specs.Extents.{extent_height, extent_width};
-ghost use Rattle.design_picture.specs.Layouts.{area_of as area_around, below_start, corners, lower_left, side_of, sheet_of as sheet_around, title_text, top_text};
+ghost use Rattle.design_picture.specs.Layouts.{area_of as area_around, below_head, below_start, corners, lower_left, scale_key, side_of, sheet_of as sheet_around, title_text, top_text};
 ghost use Rattle.std.specs.Prelude.{◌≡◌, ◌++◌, ◌<◌, ◌^◌, OnOk};
 
 use crate::block_line::LINE_HEIGHT;
 use crate::hoop::Hoop;
 use design_model::{Bytes, Extent, Memory, Point, height, width};
-use picture_parts::{Part, Sheet, put, put_head};
+use picture_parts::{Part, PictureSize, Sheet, put, put_head, put_scale};
 
 /// The space around what is shown, in tenths of a millimetre.
 pub const MARGIN: u32 = 60;
@@ -17,18 +17,19 @@ pub const MIN_WIDTH: u32 = 560;
 pub const TEXT_HEIGHT: u64 = 190;
 
 /// What a picture shows: the corners of all points, the space at the sides, above and below, and the number of
-/// the lines of its legend.
+/// the lines of its legend. The picture has its true size, or fits another one.
 #[derive(Clone, Copy)]
 pub struct Area {
     pub corners: Extent,
     pub side: u64,
     pub above: u64,
     pub lines: u32,
+    pub size: Option<PictureSize>,
 }
 
 /// Returns the area of an extent, or of the origin without one, with room for a hoop.
-pub fn area_of(extent: Option<Extent>, hoop: Hoop, lines: u32) -> Area
-    ensures value { result ≡ area_around extent hoop lines }
+pub fn area_of(extent: Option<Extent>, hoop: Hoop, lines: u32, size: Option<PictureSize>) -> Area
+    ensures value { result ≡ area_around extent hoop lines size }
     ensures side { result.side < 2 ^ 32 }
     ensures above { result.above < 2 ^ 32 }
 {
@@ -37,6 +38,7 @@ pub fn area_of(extent: Option<Extent>, hoop: Hoop, lines: u32) -> Area
         side: side(hoop.width, width(extent)),
         above: side(hoop.height, height(extent)),
         lines,
+        size,
     }
 }
 
@@ -73,6 +75,7 @@ fn sheet_of(area: Area) -> Sheet
             + 2 * area.above
             + TEXT_HEIGHT
             + LINE_HEIGHT * area.lines as u64,
+        size: area.size,
     }
 }
 
@@ -110,15 +113,19 @@ fn put_title<'a>(
     )
 }
 
-/// Begins the group of the texts below what is shown, with a bar of 10 mm, the label, and the size of an extent.
+/// Begins the group of the texts below what is shown, with a bar of 10 mm, the label, the size of an extent, and the
+/// scale of a picture that is to fit a size.
+#[tactic(auto, unfolding(crate::specs::Layouts::below_head))]
 pub fn put_below_start(
     text: &mut Bytes,
     area: Area,
     label: &[u8],
     extent: Option<Extent>,
 ) -> Result<(), Memory>
-    ensures { OnOk result (text.new ≡ text.old ++ below_start (lower_left area.corners) area.above
-        label.now (extent_width extent) (extent_height extent)) }
+    requires side { area.side < 2 ^ 32 }
+    requires above { area.above < 2 ^ 32 }
+    ensures { OnOk result (text.new
+        ≡ text.old ++ below_head area label.now (extent_width extent) (extent_height extent)) }
 {
     put_label(
         text,
@@ -127,7 +134,18 @@ pub fn put_below_start(
         label,
         width(extent),
         height(extent),
-    )
+    )?;
+    put_scale_key(text, area)?;
+    Ok(())
+}
+
+/// Appends the scale, right of the bar of 10 mm, if the picture is to fit a size.
+fn put_scale_key(text: &mut Bytes, area: Area) -> Result<(), Memory>
+    requires side { area.side < 2 ^ 32 }
+    requires above { area.above < 2 ^ 32 }
+    ensures { OnOk result (text.new ≡ text.old ++ scale_key area) }
+{
+    put_scale(text, sheet_of(area), b"<text x='220' y='7'>", b"</text>\n")
 }
 
 #[tactic(auto, unfolding(crate::specs::Layouts::below_start))]

@@ -14,8 +14,8 @@ use crate::strokes::{Stroke, Strokes, ended, put_strokes};
 use design_model::{Bytes, Design, Extent, Memory, Point, counts, extent, height, width};
 use hoop_check::{Fit, fits};
 use picture_parts::{
-    Mark, Part, again_colour, put, put_coloured_path, put_foot, put_mark, put_path_end,
-    thread_colour,
+    Mark, Part, PictureSize, again_colour, put, put_coloured_path, put_foot, put_mark,
+    put_path_end, thread_colour,
 };
 use std::alloc::Global;
 
@@ -24,13 +24,18 @@ const WORDS: &[u8] = b"Each thread is sewn from its triangle to its square, alon
 A stitch that is sewn again is drawn beside the first.";
 
 /// Returns the picture of a design, a text of SVG 1.1, the standard of the World Wide Web Consortium. With a
-/// hoop it shows the hoop around the design.
-pub fn picture(alloc: Global, design: &Design, hoop: Option<Hoop>) -> Result<Bytes, Memory>
-    ensures { IfOk result (λ text. text ≡ picture_of design.now hoop) }
+/// hoop it shows the hoop around the design. It has its true size, or fits another one.
+pub fn picture(
+    alloc: Global,
+    design: &Design,
+    hoop: Option<Hoop>,
+    size: Option<PictureSize>,
+) -> Result<Bytes, Memory>
+    ensures { IfOk result (λ text. text ≡ picture_of design.now hoop size) }
 {
     let mut strokes = Strokes::new(alloc);
     let pen = put_strokes(alloc, &mut strokes, design)?;
-    drawn(alloc, design, hoop, strokes.as_slice(), pen)
+    drawn(alloc, design, hoop, size, strokes.as_slice(), pen)
 }
 
 #[tactic(auto, unfolding(crate::specs::Pictures::picture_with))]
@@ -38,14 +43,15 @@ fn drawn(
     alloc: Global,
     design: &Design,
     hoop: Option<Hoop>,
+    size: Option<PictureSize>,
     strokes: &[Stroke],
     pen: Pen,
 ) -> Result<Bytes, Memory>
     requires { HasCounted MAX_COMMANDS pen }
-    ensures { IfOk result (λ text. text ≡ picture_with design.now hoop strokes.now pen) }
+    ensures { IfOk result (λ text. text ≡ picture_with design.now hoop size strokes.now pen) }
 {
     let mut text = Bytes::new(alloc);
-    let area = area_in(design, hoop, pen);
+    let area = area_in(design, hoop, size, pen);
     put_design_top(&mut text, design, area)?;
     put_framed(&mut text, design, hoop)?;
     put_sewn_threads(&mut text, design, hoop, strokes)?;
@@ -57,14 +63,14 @@ fn drawn(
     Ok(text)
 }
 
-fn area_in(design: &Design, hoop: Option<Hoop>, pen: Pen) -> Area
+fn area_in(design: &Design, hoop: Option<Hoop>, size: Option<PictureSize>, pen: Pen) -> Area
     requires { HasCounted MAX_COMMANDS pen }
-    ensures value { result ≡ design_area design.now hoop pen }
+    ensures value { result ≡ design_area design.now hoop size pen }
     ensures side { result.side < 2 ^ 32 }
     ensures above { result.above < 2 ^ 32 }
 {
     let lines = pen.stops + 1 + lines_of(hoop);
-    area_of(extent(design), hoop_shown(design, hoop), lines)
+    area_of(extent(design), hoop_shown(design, hoop), lines, size)
 }
 
 /// Returns the number of the key's lines of a hoop.
@@ -272,7 +278,9 @@ pub fn put_below(
     strokes: &[Stroke],
     pen: Pen,
 ) -> Result<(), Memory>
-    requires { HasCounted MAX_COMMANDS pen }
+    requires counted { HasCounted MAX_COMMANDS pen }
+    requires side { area.side < 2 ^ 32 }
+    requires above { area.above < 2 ^ 32 }
     ensures { OnOk result (text.new ≡ text.old ++ below_text design.now area strokes.now pen) }
 {
     put_below_start(text, area, design.label(), extent(design))?;

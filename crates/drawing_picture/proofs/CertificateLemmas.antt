@@ -1,7 +1,8 @@
 -- Certificates without a fault can be sewn, and what they sew is least redwork.
-use Rattle.std.proofs.Common.{◌≡◌, ◌≤◌, ◌<◌, ℕ, suc, ◌+◌, ◌*◌, List, [], ◌∷◌, None, length, map, All, Contains, sum_by, arith, refl, ap, subst, ◌∙◌}
+use Rattle.std.proofs.Common.{◌≡◌, ◌≤◌, ◌<◌, ℕ, suc, ◌+◌, ◌*◌, List, [], ◌∷◌, Option, None, length, map, All, Contains, sum_by, arith, refl, ap, subst, ◌∙◌}
 use Rattle.drawing_picture.proofs.Names.{All-head, All-tail, sum_by-cons, PieceCert, DesignValue, IsFirstFault, bands_of_pieces, retraced_steps, Piece, DrawingValue, PieceValue, piece_graph, ArePiecesOf, graph_of, lines_of_pieces, IsValidPiece, count_reason, piece_reason, pieces_reason, length-map, All-cons, All-contains, All-nil, AllZip, concat, total_weight, AreSewn, IsShownProof, RightCertificatesAreSewn, certificate_reason, proof_of_design, KeepsDrawingLimits, IsCorrectPieceCert, IsCorrectRoute, commands_count}
 use Rattle.odd_cuts.specs.Certificates.{walks_of}
+use Rattle.picture_parts.specs.declared.sizes.PictureSize.{PictureSize}
 use Rattle.odd_cuts.specs.FaultTheorems.{CutFaultsAreExact, WalkFaultsAreExact}
 use Rattle.odd_cuts.specs.PackingBounds.{BoundsTotal, BoundsWalks}
 use Rattle.line_graph.specs.declared.pass.Pass.{Pass}
@@ -151,10 +152,11 @@ sewn_of sewn d certs keeps found = sewn d found.pieces certs keeps found.pieces_
 
 -- the picture of their proof
 pub shown_of : PiecesAreUnique → RightCertificatesAreSewn → (d : DrawingValue) (certs : List PieceCert) (pieces : List Piece)
-    (design : DesignValue) (text : List ℕ) → KeepsDrawingLimits d → IsFirstFault d certs None → ArePiecesOf d pieces
-    → design ≡ sewn_design d (walks_of certs)
-    → text ≡ proof_of_design design (bands_of_pieces d (map graph_of pieces) certs) (retraced_steps certs) → IsShownProof d certs text
-shown_of one sewn d certs pieces design text keeps found cut is shown =
+    (design : DesignValue) (size : Option PictureSize) (text : List ℕ) → KeepsDrawingLimits d → IsFirstFault d certs None
+    → ArePiecesOf d pieces → design ≡ sewn_design d (walks_of certs)
+    → text ≡ proof_of_design design size (bands_of_pieces d (map graph_of pieces) certs) (retraced_steps certs)
+    → IsShownProof d certs size text
+shown_of one sewn d certs pieces design size text keeps found cut is shown =
     let same : found.pieces ≡ lines_of_pieces pieces = one d found.pieces (lines_of_pieces pieces) found.pieces_are cut.are in
     record {
       pieces = lines_of_pieces pieces;
@@ -162,7 +164,7 @@ shown_of one sewn d certs pieces design text keeps found cut is shown =
       right = subst (λ (ps : List (List ℕ)). certificate_reason (map (piece_graph d) ps) certs ≡ None) same found.is;
       least = (sewn_of sewn d certs keeps found).least;
       shown = shown
-          ∙ ap (λ (de : DesignValue). proof_of_design de (bands_of_pieces d (map graph_of pieces) certs) (retraced_steps certs)) is
-          ∙ ap (λ (gs : List PieceValue). proof_of_design (sewn_design d (walks_of certs)) (bands_of_pieces d gs certs)
+          ∙ ap (λ (de : DesignValue). proof_of_design de size (bands_of_pieces d (map graph_of pieces) certs) (retraced_steps certs)) is
+          ∙ ap (λ (gs : List PieceValue). proof_of_design (sewn_design d (walks_of certs)) size (bands_of_pieces d gs certs)
           (retraced_steps certs)) (graphs_are d pieces cut.each);
     }

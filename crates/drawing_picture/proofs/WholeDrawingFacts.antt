@@ -1,10 +1,10 @@
 -- The picture of a drawing, entire and by hand, with a start, an end, odd junctions, a loose end and a crossing. Points are in tenths
 -- of a millimetre.
-use Rattle.std.proofs.Common.{◌≡◌, ℕ, List, pos, [], ◌∷◌, ◌++◌, codes, map, refl}
+use Rattle.std.proofs.Common.{◌≡◌, ℕ, List, pos, [], ◌∷◌, ◌++◌, Some, codes, map, refl}
 use Rattle.std.specs.Fmt.{digits}
 use Rattle.drawing_picture.proofs.Names.{DrawingValue, LineValue, Point, piece_graph}
 use Rattle.design_picture.specs.Captions.{block_start, group_end}
-use Rattle.design_picture.specs.Layouts.{below_start, title_text, top_text}
+use Rattle.design_picture.specs.Layouts.{below_head, below_start, title_text, top_text}
 use Rattle.drawing_picture.specs.DrawingCaptions.{counts_text, grid_words, mark_keys, more_blocks, place_words, thread_end}
 use Rattle.drawing_picture.specs.DrawingPictures.{drawing_below, drawing_marks, drawing_with, picture_of_pieces}
 use Rattle.drawing_picture.specs.Grids.{column_start, coordinate_end, grid_start, row_start}
@@ -50,9 +50,9 @@ abbrev pieces : List (List ℕ)
 pieces = (0 ∷ 1 ∷ 2 ∷ []) ∷ (3 ∷ []) ∷ (4 ∷ []) ∷ (5 ∷ []) ∷ (6 ∷ []) ∷ []
 
 -- The drawing has 10 mm by 8 mm. Six numbers on the right need 14.4 mm, and the texts below a sheet of 56 mm, which has 15 mm on both
--- sides, 6 mm above and below, and 19 mm and six lines of 2.8 mm for the texts.
+-- sides, 6 mm above and below, and 19 mm and six lines of 2.8 mm for the texts. It is to fit 4.3 cm by 10 cm.
 abbrev top : List ℕ
-top = codes "<svg xmlns='http://www.w3.org/2000/svg' width='86.0mm' height='62.2mm' viewBox='0,0,860,622'>"
+top = codes "<svg xmlns='http://www.w3.org/2000/svg' width='43.0mm' height='100.0mm' viewBox='0,0,860,622'>"
     ++ (10 ∷ codes "<path fill='#d9d1be' d='M0,0h860v622h-860z'/>" ++ (10 ∷ style_text
     ++ (codes "<title>Embroidery T</title>" ++ (10 ∷ codes "<desc>The lines of a drawing, with a dot at each junction: "
     ++ (codes "black where it is even, larger and yellow where it is odd. Places to mend are red.</desc>"
@@ -138,9 +138,9 @@ marks = codes "<path fill='#222' d='M0,0m-5,0a5,5,0,1,0,10,0a5,5,0,1,0,-10,0'/>"
 abbrev below : List ℕ
 below = codes "<g transform='translate(0,144) translate(0,60)'>"
     ++ (10 ∷ codes "<path class='line' d='M0,-6v12m0,-6h100m0,-6v12'/><text x='112' y='7'>10 mm</text>"
-    ++ (10 ∷ codes "<text y='44'>T 10.0 x 8.0 mm</text>"
+    ++ (10 ∷ codes "<text y='44'>T 10.0 x 8.0 mm</text>" ++ (10 ∷ codes "<text x='220' y='7'>scale 1 : 2.0</text>"
     ++ (10 ∷ codes "<text y='72'>pieces 5, junctions 11, odd junctions 8</text>"
-    ++ (10 ∷ codes "<text y='100'>lines 6 as drawn, 7 as sewn</text>" ++ 10 ∷ []))))
+    ++ (10 ∷ codes "<text y='100'>lines 6 as drawn, 7 as sewn</text>" ++ 10 ∷ [])))))
 
 -- The triangle is a start and the square an end, the black dot a junction, the yellow one odd. In the rows below are a ring, a square, a
 -- square on its corner, a cross, a stretch and a stretch in dashes.
@@ -176,10 +176,11 @@ legend = codes "<g transform='translate(0,248)'>"
     ++ (10 ∷ codes "</g>"
     ++ (10 ∷ codes "</svg>" ++ 10 ∷ []))))))))
 
-pub known_drawing_picture : picture_of_pieces drawing (map (piece_graph drawing) pieces) drawn
+pub known_drawing_picture : picture_of_pieces drawing (Some (record { width = 43; height = 100 })) (map (piece_graph drawing) pieces) drawn
     ≡ top ++ (grid ++ (paths ++ (labels ++ (marks ++ (below ++ (key ++ legend))))))
-unfolding around below_start block_start column_start coloured_path colour_of_thread coordinate_end counts_text digits drawing_below
-    drawing_marks drawing_with filled foot_text grid_start grid_words group_end head_text labels_start left_label mark_keys mark_text
+unfolding around below_head below_start block_start column_start coloured_path colour_of_thread coordinate_end counts_text digits
+    drawing_below drawing_marks drawing_with filled foot_text grid_start grid_words group_end head_text labels_start left_label mark_keys
+    mark_text
     more_blocks move_text name_of_thread path_end place_shape place_words right_label row_start shape_at straight_text stretch_shape
     thread_end title_text told top_text
 known_drawing_picture = refl

@@ -1,12 +1,12 @@
 -- The constants of pictures of drawings and of proofs, the lines of a proof's reason, and the order of its layers.
-use Rattle.std.proofs.Common.{◌≡◌, ℕ, List, [], ◌∷◌, ◌++◌, codes, refl}
+use Rattle.std.proofs.Common.{◌≡◌, ℕ, List, [], ◌∷◌, ◌++◌, Some, codes, refl}
 use Rattle.std.specs.Fmt.{digits}
 use Rattle.drawing_picture.proofs.BandFacts.{at}
 use Rattle.drawing_picture.proofs.Names.{DesignValue, proof_of_design}
 use Rattle.design_model.specs.declared.command.Command.TheVariants.{Stitch}
 use Rattle.design_picture.specs.Captions.{block_start, block_words, caption, group_end, key_text}
 use Rattle.design_picture.specs.Layers.{path_layer}
-use Rattle.design_picture.specs.Layouts.{below_start, title_text, top_text}
+use Rattle.design_picture.specs.Layouts.{below_head, below_start, title_text, top_text}
 use Rattle.design_picture.specs.Pictures.{below_text, over_text, seconds_text, threads_text}
 use Rattle.design_picture.specs.StrokeMarks.{piece_number}
 use Rattle.design_picture.specs.Threads.{arc_text, arrow_shape, hole_shape}
@@ -30,9 +30,9 @@ known_constants = refl
 abbrev design : DesignValue
 design = record { label = codes "I"; threads = 1 ∷ []; commands = Stitch (at 0) ∷ Stitch (at 30) ∷ Stitch (at 0) ∷ [] }
 
--- A line of the legend and five of the reason are below it: 12, 19 and six lines of 2.8 mm.
+-- A line of the legend and five of the reason are below it: 12, 19 and six lines of 2.8 mm. It is to fit 10 cm by 3 cm.
 abbrev top : List ℕ
-top = codes "<svg xmlns='http://www.w3.org/2000/svg' width='68.0mm' height='47.8mm' viewBox='0,0,680,478'>"
+top = codes "<svg xmlns='http://www.w3.org/2000/svg' width='100.0mm' height='30.0mm' viewBox='0,0,680,478'>"
     ++ (10 ∷ codes "<path fill='#d9d1be' d='M0,0h680v478h-680z'/>" ++ (10 ∷ style_text
     ++ (codes "<title>Embroidery I</title>"
     ++ (10 ∷ codes "<desc>No thread over a piece has fewer stitches than the one that is shown: the bands of the cuts prove it. "
@@ -53,14 +53,14 @@ layers = codes "<g transform='scale(.5)'>" ++ (10 ∷ codes "BANDS</g>" ++ (10 �
 abbrev below : List ℕ
 below = codes "<g transform='translate(0,0) translate(0,60)'>"
     ++ (10 ∷ codes "<path class='line' d='M0,-6v12m0,-6h100m0,-6v12'/><text x='112' y='7'>10 mm</text>"
-    ++ (10 ∷ codes "<text y='44'>I 3.0 x 0.0 mm</text>"
+    ++ (10 ∷ codes "<text y='44'>I 3.0 x 0.0 mm</text>" ++ (10 ∷ codes "<text x='220' y='7'>scale 1 : 1.6</text>"
     ++ (10 ∷ codes "<text y='72'>needles 3, pieces 1, trims 0, stops 0</text>"
     ++ (10 ∷ codes "<text y='100'>thread 6.0 mm, travel 0.0 mm</text>" ++ (10 ∷ key_text
     ++ (codes "<g transform='translate(0,160)'>"
     ++ (10 ∷ codes "<g transform='translate(0,28)'><path stroke-width='14' d='M7,-7h26' stroke='#0e1f7c'/>"
     ++ (codes "<text x='52'>thread 1</text><text class='small' x='165'>Prussian Blue</text>"
     ++ (codes "<text x='305'>needles 3</text><text x='480'>6.0 mm</text></g>"
-    ++ (10 ∷ codes "</g>" ++ 10 ∷ []))))))))))
+    ++ (10 ∷ codes "</g>" ++ 10 ∷ [])))))))))))
 
 -- The reason is 17 mm and a line of 2.8 mm below, and its last line has the steps.
 abbrev reason : List ℕ
@@ -73,9 +73,11 @@ reason = codes "<g transform='translate(0,198)'>"
     ++ (10 ∷ codes "<text class='small' y='134'>and all bands together are as wide as what is sewn again: steps 9.</text>"
     ++ (10 ∷ codes "</g>" ++ (10 ∷ codes "</g>" ++ (10 ∷ codes "</g>" ++ (10 ∷ codes "</svg>" ++ 10 ∷ []))))))))))
 
-pub known_proof_picture : proof_of_design design (codes "BANDS") 9 ≡ top ++ (layers ++ (below ++ reason))
-unfolding again_colour_of arc_text around arrow_shape band_group below_start below_text block_start block_words caption coloured_path
-    colour_of_thread digits filled foot_text group_end head_text hole_shape length_of mark_text move_text name_of_thread over_text path_end
+pub known_proof_picture : proof_of_design design (Some (record { width = 100; height = 30 })) (codes "BANDS") 9
+    ≡ top ++ (layers ++ (below ++ reason))
+unfolding again_colour_of arc_text around arrow_shape band_group below_head below_start below_text block_start block_words caption
+    coloured_path colour_of_thread digits filled foot_text group_end head_text hole_shape length_of mark_text move_text name_of_thread
+    over_text path_end
     path_layer path_start piece_number proof_with reason_lines seconds_text shape_at square_of straight_text threads_text title_text
     top_text whole_root
 known_proof_picture = refl

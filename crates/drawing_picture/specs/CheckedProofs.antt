@@ -12,6 +12,7 @@ use Rattle.line_graph.specs.Runs.{commands_after, runs_of, sewn_design}
 use Rattle.odd_cuts.specs.declared.certificate.PieceCert.{PieceCert}
 use Rattle.odd_cuts.specs.Certificates.{walks_of}
 use Rattle.odd_cuts.specs.Faults.{first_fault}
+use Rattle.picture_parts.specs.declared.sizes.PictureSize.{PictureSize}
 use Rattle.route_verdict.specs.declared.verdict.Reason.{Reason}
 use Rattle.route_verdict.specs.declared.verdict.Reason.TheVariants as reason
 use Rattle.route_verdict.specs.declared.verdict.Verdict.{Verdict}
@@ -56,17 +57,19 @@ RightCertificatesAreSewn = (d : DrawingValue) (pieces : List (List ℕ)) (certs 
     → KeepsDrawingLimits d → ArePieces d pieces
     → certificate_reason (map (piece_graph d) pieces) certs ≡ None → AreSewn d certs
 
--- A proof that is shown: the certificates have no fault, and their walks are least.
-pub record IsShownProof (d : DrawingValue) (certs : List PieceCert) (text : List ℕ)
-    : Type 0 where
+-- A proof that is shown, in true size or in another: the certificates have no fault, and their
+-- walks are least.
+pub record IsShownProof (d : DrawingValue) (certs : List PieceCert) (size : Option PictureSize)
+    (text : List ℕ) : Type 0 where
   pub pieces : List (List ℕ)
   pub pieces_are : ArePieces d pieces
   pub right : certificate_reason (map (piece_graph d) pieces) certs ≡ None
   pub least : IsLeastRedwork d (sewn_design d (walks_of certs)) certs
-  pub shown : text ≡ proof_of d (map (piece_graph d) pieces) certs
+  pub shown : text ≡ proof_of d size (map (piece_graph d) pieces) certs
 
 -- The result of showing a proof: its picture, or the first fault of the certificates.
-abbrev pub IsProofResult : DrawingValue → List PieceCert → Result (List ℕ) ProofFault → Type 0
-IsProofResult d certs (Ok text) = IsShownProof d certs text
-IsProofResult d certs (Err (fault.Wrong wrong)) = IsFirstFault d certs (Some wrong)
-IsProofResult d certs (Err fault.Memory) = Unit {0}
+abbrev pub IsProofResult : DrawingValue → List PieceCert → Option PictureSize
+    → Result (List ℕ) ProofFault → Type 0
+IsProofResult d certs size (Ok text) = IsShownProof d certs size text
+IsProofResult d certs size (Err (fault.Wrong wrong)) = IsFirstFault d certs (Some wrong)
+IsProofResult d certs size (Err fault.Memory) = Unit {0}

@@ -9,7 +9,7 @@ use Rattle.design_model.specs.declared.point.Point.{Point}
 use Rattle.design_model.specs.Extents.{extent_height, extent_of_points, extent_width}
 use Rattle.design_picture.specs.declared.layout.Area.{Area}
 use Rattle.design_picture.specs.Captions.{group_end}
-use Rattle.design_picture.specs.Layouts.{below_start, corners, lower_left, top_text}
+use Rattle.design_picture.specs.Layouts.{below_head, corners, top_text}
 use Rattle.drawing_picture.specs.declared.drawn_picture.TheConstants.{KEY_LINES, LABEL_HEIGHT, MEETING_GAP, SIDE_SPACE, UPPER_SPACE}
 use Rattle.drawing_picture.specs.declared.grid.Grid.{Grid}
 use Rattle.drawing_picture.specs.declared.junction_marks.JunctionMark.{JunctionMark}
@@ -28,6 +28,7 @@ use Rattle.line_meetings.specs.declared.meeting.Meeting.{Meeting}
 use Rattle.line_meetings.specs.Meetings.{meetings_of_lines}
 use Rattle.line_sections.specs.Lines.{LineValue, points_of_lines}
 use Rattle.picture_parts.specs.declared.marks.Mark.TheVariants as mark
+use Rattle.picture_parts.specs.declared.sizes.PictureSize.{PictureSize}
 use Rattle.picture_parts.specs.Sheets.{foot_text}
 
 -- The extent of a drawing's points.
@@ -44,8 +45,8 @@ counted_point_of x y = record { x = pos x -ℤ pos 30000; y = pos y -ℤ pos 300
 
 -- The area of a grid, with so many labels at most on a side, never more than 128, and a legend of
 -- so many blocks.
-abbrev pub area_of_grid : Grid → (labels blocks : ℕ) → Area
-area_of_grid g labels blocks = record {
+abbrev pub area_of_grid : Grid → (labels blocks : ℕ) → Option PictureSize → Area
+area_of_grid g labels blocks size = record {
   corners = record {
     min = counted_point_of g.left g.top;
     max = counted_point_of g.right (max g.bottom (g.top + LABEL_HEIGHT * min labels 128));
@@ -53,6 +54,7 @@ area_of_grid g labels blocks = record {
   side = SIDE_SPACE;
   above = UPPER_SPACE;
   lines = shown_blocks blocks + KEY_LINES;
+  size = size;
 }
 
 -- The text before the grid.
@@ -69,8 +71,7 @@ drawing_marks d marks meetings = flat_map junction_dot marks
 unfoldable pub drawing_below : DrawingValue → Area → (step drawn pieces : ℕ)
     → List JunctionMark → List Meeting → List ℕ
 drawing_below d area step drawn pieces marks meetings =
-    below_start (lower_left area.corners) area.above d.label (extent_width (drawn_extent d))
-    (extent_height (drawn_extent d))
+    below_head area d.label (extent_width (drawn_extent d)) (extent_height (drawn_extent d))
     ++ (counts_text pieces (length marks) (odd_marks marks) drawn (length d.lines)
     ++ (mark_keys ++ (places_text meetings ++ (grid_words step (labels_words pieces drawn)
     ++ (legend_of d.threads ++ group_end)))))
@@ -85,28 +86,30 @@ drawing_with d area drawn pieces marks meetings left right = drawing_top d area
     ++ (drawing_below d area (grid_of_drawing d).step drawn pieces marks meetings ++ foot_text)))))
 
 -- The picture of a drawing with labels on both sides of its grid.
-abbrev pub drawing_labelled : DrawingValue → (drawn pieces : ℕ) → List JunctionMark → List Meeting
-    → (left right : List Label) → List ℕ
-drawing_labelled d drawn pieces marks meetings left right = drawing_with d
-    (area_of_grid (grid_of_drawing d) (max (length left) (length right)) (length d.threads))
+abbrev pub drawing_labelled : DrawingValue → Option PictureSize → (drawn pieces : ℕ)
+    → List JunctionMark → List Meeting → (left right : List Label) → List ℕ
+drawing_labelled d size drawn pieces marks meetings left right = drawing_with d
+    (area_of_grid (grid_of_drawing d) (max (length left) (length right)) (length d.threads) size)
     drawn pieces marks meetings left right
 
 -- The picture of a drawing with labels.
-abbrev pub labelled_on_sides : DrawingValue → (drawn pieces : ℕ) → List JunctionMark
-    → List Meeting → List Label → List ℕ
-labelled_on_sides d drawn pieces marks meetings labels =
-    drawing_labelled d drawn pieces marks meetings
+abbrev pub labelled_on_sides : DrawingValue → Option PictureSize → (drawn pieces : ℕ)
+    → List JunctionMark → List Meeting → List Label → List ℕ
+labelled_on_sides d size drawn pieces marks meetings labels =
+    drawing_labelled d size drawn pieces marks meetings
     (labels_of_side side.Left (grid_of_drawing d) labels)
     (labels_of_side side.Right (grid_of_drawing d) labels)
 
 -- The picture of a drawing that has those pieces, whose lines are drawn like that.
-abbrev pub picture_of_pieces : DrawingValue → List PieceValue → List LineValue → List ℕ
-picture_of_pieces d pieces lines = labelled_on_sides d (length lines) (length pieces)
+abbrev pub picture_of_pieces : DrawingValue → Option PictureSize → List PieceValue
+    → List LineValue → List ℕ
+picture_of_pieces d size pieces lines = labelled_on_sides d size (length lines) (length pieces)
     (marks_of_pieces pieces) (meetings_of_lines MEETING_GAP lines) (labels_of_all pieces lines)
 
--- The text is the picture of a drawing, whose lines are drawn like that.
-pub record IsDrawingPicture (d : DrawingValue) (lines : List LineValue) (text : List ℕ)
-    : Type 0 where
+-- The text is the picture of a drawing, whose lines are drawn like that, in true size or in
+-- another.
+pub record IsDrawingPicture (d : DrawingValue) (lines : List LineValue)
+    (size : Option PictureSize) (text : List ℕ) : Type 0 where
   pub pieces : List (List ℕ)
   pub pieces_are : ArePieces d pieces
-  pub shown : text ≡ picture_of_pieces d (map (piece_graph d) pieces) lines
+  pub shown : text ≡ picture_of_pieces d size (map (piece_graph d) pieces) lines

@@ -1,7 +1,7 @@
 -- The picture of a proof: the walks of a certificate as the design that sews them, with what is
 -- sewn again in dashes of a second colour, and the cuts as bands. Below it stands that no thread
 -- has fewer stitches, and why. The unit is a tenth of a millimetre.
-use Rattle.std.specs.Prelude.{ℕ, ◌+◌, ◌*◌, List, [], ◌∷◌, ◌++◌, codes, sum_by}
+use Rattle.std.specs.Prelude.{ℕ, ◌+◌, ◌*◌, List, [], ◌∷◌, ◌++◌, Option, codes, sum_by}
 use Rattle.std.specs.Fmt.{decimal}
 use Rattle.design_model.specs.Designs.{DesignValue}
 use Rattle.design_model.specs.Extents.{extent_of}
@@ -19,13 +19,14 @@ use Rattle.line_graph.specs.PieceGraphs.{PieceValue}
 use Rattle.line_graph.specs.Runs.{sewn_design}
 use Rattle.odd_cuts.specs.declared.certificate.PieceCert.{PieceCert}
 use Rattle.odd_cuts.specs.Certificates.{walks_of}
+use Rattle.picture_parts.specs.declared.sizes.PictureSize.{PictureSize}
 use Rattle.picture_parts.specs.Parts.{ended, filled}
 use Rattle.picture_parts.specs.Sheets.{foot_text}
 
 -- The area of a proof: below the legend are the lines of the reason.
-abbrev pub proof_area : DesignValue → Pen → Area
-proof_area design pen = area_of (extent_of design) (record { width = 0; height = 0 })
-    (pen.stops + 1 + REASON_LINES)
+abbrev pub proof_area : DesignValue → Option PictureSize → Pen → Area
+proof_area design size pen = area_of (extent_of design) (record { width = 0; height = 0 })
+    (pen.stops + 1 + REASON_LINES) size
 
 -- The steps that the walks sew again.
 abbrev pub retraced_steps : List PieceCert → ℕ
@@ -62,19 +63,19 @@ reason_lines lines steps = filled (codes "<g transform='translate(0,@)'>"
 
 -- The picture of the strokes of a design, with bands. What is sewn again is in dashes of a second
 -- colour, above the thread and below the needle holes.
-unfoldable pub proof_with : DesignValue → List ℕ → ℕ → List Stroke → Pen → List ℕ
-proof_with design bands steps strokes pen = proof_top design (proof_area design pen)
+unfoldable pub proof_with : DesignValue → List ℕ → ℕ → Area → List Stroke → Pen → List ℕ
+proof_with design bands steps area strokes pen = proof_top design area
     ++ (band_group bands ++ (threads_text design strokes
     ++ (seconds_text design strokes ++ (over_text strokes pen
-    ++ (below_text design (proof_area design pen) strokes pen
+    ++ (below_text design area strokes pen
     ++ (reason_lines (pen.stops + 1) steps ++ foot_text))))))
 
 -- The picture of a design with bands.
-abbrev pub proof_of_design : DesignValue → List ℕ → ℕ → List ℕ
-proof_of_design design bands steps =
-    proof_with design bands steps (strokes_of design) (pen_of design)
+abbrev pub proof_of_design : DesignValue → Option PictureSize → List ℕ → ℕ → List ℕ
+proof_of_design design size bands steps = proof_with design bands steps
+    (proof_area design size (pen_of design)) (strokes_of design) (pen_of design)
 
 -- The picture of the proof of a certificate, over the pieces of a drawing.
-abbrev pub proof_of : DrawingValue → List PieceValue → List PieceCert → List ℕ
-proof_of d pieces certs = proof_of_design (sewn_design d (walks_of certs))
+abbrev pub proof_of : DrawingValue → Option PictureSize → List PieceValue → List PieceCert → List ℕ
+proof_of d size pieces certs = proof_of_design (sewn_design d (walks_of certs)) size
     (bands_of_pieces d pieces certs) (retraced_steps certs)

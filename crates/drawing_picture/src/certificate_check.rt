@@ -7,6 +7,7 @@ use crate::theorems::right_certificates_are_sewn;
 use design_model::{Bytes, Design, Memory};
 use line_graph::{Drawing, pieces, pieces_are_unique};
 use odd_cuts::Cert;
+use picture_parts::PictureSize;
 use route_verdict::{Reason, Verdict, judge, sew};
 use std::alloc::Global;
 
@@ -19,32 +20,49 @@ pub enum ProofFault {
     Memory,
 }
 
-/// Returns the picture of the proof that a certificate is of a drawing. Errors: `Wrong` where the certificate
-/// proves nothing of the drawing, with its first fault; or `Memory`.
-pub fn picture_of_proof(alloc: Global, d: &Drawing, cert: &Cert) -> Result<Bytes, ProofFault>
+/// Returns the picture of the proof that a certificate is of a drawing. It has its true size, or fits another one. Errors:
+/// `Wrong` where the certificate proves nothing of the drawing, with its first fault; or `Memory`.
+pub fn picture_of_proof(
+    alloc: Global,
+    d: &Drawing,
+    cert: &Cert,
+    size: Option<PictureSize>,
+) -> Result<Bytes, ProofFault>
     requires few { length cert.now.pieces < 2 ^ 32 - 1 }
     requires short { All HasShortLists cert.now.pieces }
-    ensures { IsProofResult d.now cert.now.pieces result }
+    ensures { IsProofResult d.now cert.now.pieces size result }
 {
     match first_fault(alloc, d, cert) {
         Ok(Some(reason)) => Err(ProofFault::Wrong(reason)),
-        Ok(None) => right_picture(alloc, d, cert).map_err(|_| ProofFault::Memory),
+        Ok(None) => right_picture(alloc, d, cert, size).map_err(|_| ProofFault::Memory),
         Err(_) => Err(ProofFault::Memory),
     }
 }
 
 /// Returns the picture of the proof that a certificate without a fault is.
-fn right_picture(alloc: Global, d: &Drawing, cert: &Cert) -> Result<Bytes, Memory>
+fn right_picture(
+    alloc: Global,
+    d: &Drawing,
+    cert: &Cert,
+    size: Option<PictureSize>,
+) -> Result<Bytes, Memory>
     requires few { length cert.now.pieces < 2 ^ 32 - 1 }
     requires right { IsFirstFault d.now cert.now.pieces None }
-    ensures { IfOk result (IsShownProof d.now cert.now.pieces) }
+    ensures { IfOk result (IsShownProof d.now cert.now.pieces size) }
 {
     d.keeps_limits();
     pieces_are_unique();
     right_certificates_are_sewn();
     let design = sew(alloc, d, cert)?;
     let pieces = pieces(alloc, d)?;
-    let text = proof_picture(alloc, d, &design, pieces.as_slice(), cert.pieces.as_slice())?;
+    let text = proof_picture(
+        alloc,
+        d,
+        &design,
+        pieces.as_slice(),
+        cert.pieces.as_slice(),
+        size,
+    )?;
     Ok(text)
 }
 

@@ -19,7 +19,7 @@ use design_picture::{Area, put_below_start, put_group_end, put_top};
 use line_graph::{Drawing, pieces};
 use line_meetings::{Meeting, find_meetings};
 use line_sections::{Line, lines_extent};
-use picture_parts::{Mark, put_foot};
+use picture_parts::{Mark, PictureSize, put_foot};
 use std::alloc::Global;
 
 /// The gap within which lines should meet, in tenths of a millimetre.
@@ -37,9 +37,14 @@ pub const LABEL_HEIGHT: u32 = 24;
 /// The height of what the key says of places, of the grid and of numbers, in lines of the legend.
 pub const KEY_LINES: u32 = 4;
 
-/// Returns the picture of a drawing, whose lines are drawn as given.
-pub fn picture_of_drawing(alloc: Global, d: &Drawing, lines: &[Line]) -> Result<Bytes, Memory>
-    ensures { IfOk result (IsDrawingPicture d.now lines.now) }
+/// Returns the picture of a drawing, whose lines are drawn as given. It has its true size, or fits another one.
+pub fn picture_of_drawing(
+    alloc: Global,
+    d: &Drawing,
+    lines: &[Line],
+    size: Option<PictureSize>,
+) -> Result<Bytes, Memory>
+    ensures { IfOk result (IsDrawingPicture d.now lines.now size) }
 {
     let pieces = pieces(alloc, d)?;
     let marks = junction_marks(alloc, pieces.as_slice())?;
@@ -48,6 +53,7 @@ pub fn picture_of_drawing(alloc: Global, d: &Drawing, lines: &[Line]) -> Result<
     let text = labelled(
         alloc,
         d,
+        size,
         lines.len(),
         pieces.len(),
         marks.as_slice(),
@@ -60,6 +66,7 @@ pub fn picture_of_drawing(alloc: Global, d: &Drawing, lines: &[Line]) -> Result<
 fn labelled(
     alloc: Global,
     d: &Drawing,
+    size: Option<PictureSize>,
     drawn: usize,
     pieces: usize,
     marks: &[JunctionMark],
@@ -67,18 +74,21 @@ fn labelled(
     labels: &[Label],
 ) -> Result<Bytes, Memory>
     ensures { IfOk result (λ text. text
-        ≡ labelled_on_sides d.now drawn pieces marks.now meetings.now labels.now) }
+        ≡ labelled_on_sides d.now size drawn pieces marks.now meetings.now labels.now) }
 {
     let g = drawing_grid(d);
     let left = labels_on(alloc, Side::Left, g, labels)?;
     let right = labels_on(alloc, Side::Right, g, labels)?;
-    let text = on_sides(alloc, d, drawn, pieces, marks, meetings, &left, &right)?;
+    let text = on_sides(
+        alloc, d, size, drawn, pieces, marks, meetings, &left, &right,
+    )?;
     Ok(text)
 }
 
 fn on_sides(
     alloc: Global,
     d: &Drawing,
+    size: Option<PictureSize>,
     drawn: usize,
     pieces: usize,
     marks: &[JunctionMark],
@@ -87,12 +97,13 @@ fn on_sides(
     right: &[Label],
 ) -> Result<Bytes, Memory>
     ensures { IfOk result (λ text. text
-        ≡ drawing_labelled d.now drawn pieces marks.now meetings.now left.now right.now) }
+        ≡ drawing_labelled d.now size drawn pieces marks.now meetings.now left.now right.now) }
 {
     let area = drawing_area(
         drawing_grid(d),
         left.len().max(right.len()),
         d.block_count(),
+        size,
     );
     let text = in_area(alloc, d, area, drawn, pieces, marks, meetings, left, right)?;
     Ok(text)
@@ -155,12 +166,12 @@ fn drawing_grid(d: &Drawing) -> Grid
 
 /// Returns the area of a grid, with so many labels at most on a side, never more than 128, and a legend of so many
 /// blocks.
-fn drawing_area(g: Grid, labels: usize, blocks: u32) -> Area
+fn drawing_area(g: Grid, labels: usize, blocks: u32, size: Option<PictureSize>) -> Area
     requires left { g.left < 2 ^ 17 }
     requires right { g.right < 2 ^ 17 }
     requires top { g.top < 2 ^ 17 }
     requires bottom { g.bottom < 2 ^ 17 }
-    ensures value { result ≡ area_of_grid g labels blocks }
+    ensures value { result ≡ area_of_grid g labels blocks size }
     ensures side { result.side < 2 ^ 32 }
     ensures above { result.above < 2 ^ 32 }
 {
@@ -175,6 +186,7 @@ fn drawing_area(g: Grid, labels: usize, blocks: u32) -> Area
         side: SIDE_SPACE,
         above: UPPER_SPACE,
         lines: shown_of(blocks) + KEY_LINES,
+        size,
     }
 }
 
@@ -219,6 +231,8 @@ fn put_below(
     marks: &[JunctionMark],
     meetings: &[Meeting],
 ) -> Result<(), Memory>
+    requires side { area.side < 2 ^ 32 }
+    requires above { area.above < 2 ^ 32 }
     ensures { OnOk result (text.new
         ≡ text.old ++ drawing_below d.now area step drawn pieces marks.now meetings.now) }
 {

@@ -14,7 +14,7 @@ use design_picture::{
 };
 use line_graph::{Drawing, Piece};
 use odd_cuts::PieceCert;
-use picture_parts::put_foot;
+use picture_parts::{PictureSize, put_foot};
 use std::alloc::Global;
 
 /// Returns the picture of a design that sews the walks of certificates, with the cuts as bands.
@@ -24,10 +24,11 @@ pub(crate) fn proof_picture(
     design: &Design,
     pieces: &[Piece],
     certs: &[PieceCert],
+    size: Option<PictureSize>,
 ) -> Result<Bytes, Memory>
     requires few { length certs.now < 2 ^ 32 - 1 }
     requires there { All (λ p. All (λ line. line < length d.now.lines) p.lines) pieces.now }
-    ensures { IfOk result (λ text. text ≡ proof_of_design design.now
+    ensures { IfOk result (λ text. text ≡ proof_of_design design.now size
         (bands_of_pieces d.now (map graph_of pieces.now) certs.now) (retraced_steps certs.now)) }
 {
     let mut bands = Bytes::new(alloc);
@@ -39,6 +40,7 @@ pub(crate) fn proof_picture(
         design,
         bands.as_slice(),
         steps_again(certs),
+        proof_area(design, size, pen),
         strokes.as_slice(),
         pen,
     )
@@ -50,14 +52,17 @@ fn drawn(
     design: &Design,
     bands: &[u8],
     steps: u64,
+    area: Area,
     strokes: &[Stroke],
     pen: Pen,
 ) -> Result<Bytes, Memory>
-    requires { HasCounted MAX_COMMANDS pen }
-    ensures { IfOk result (λ text. text ≡ proof_with design.now bands.now steps strokes.now pen) }
+    requires counted { HasCounted MAX_COMMANDS pen }
+    requires side { area.side < 2 ^ 32 }
+    requires above { area.above < 2 ^ 32 }
+    ensures { IfOk result (λ text. text
+        ≡ proof_with design.now bands.now steps area strokes.now pen) }
 {
     let mut text = Bytes::new(alloc);
-    let area = proof_area(design, pen);
     put_proof_top(&mut text, design, area)?;
     put_band_group(&mut text, bands)?;
     put_threads(&mut text, design, strokes)?;
@@ -78,9 +83,9 @@ fn put_proof_top(text: &mut Bytes, design: &Design, area: Area) -> Result<(), Me
     put_top(text, area, design.label(), PROOF_WORDS)
 }
 
-fn proof_area(design: &Design, pen: Pen) -> Area
+fn proof_area(design: &Design, size: Option<PictureSize>, pen: Pen) -> Area
     requires { HasCounted MAX_COMMANDS pen }
-    ensures value { result ≡ area_of_proof design.now pen }
+    ensures value { result ≡ area_of_proof design.now size pen }
     ensures side { result.side < 2 ^ 32 }
     ensures above { result.above < 2 ^ 32 }
 {
@@ -88,5 +93,5 @@ fn proof_area(design: &Design, pen: Pen) -> Area
         width: 0,
         height: 0,
     };
-    area_of(extent(design), none, pen.stops + 1 + REASON_LINES)
+    area_of(extent(design), none, pen.stops + 1 + REASON_LINES, size)
 }

@@ -1,3 +1,4 @@
 mod FormatLemmas
+mod ParsedLemmas
 mod PictureLemmas
 mod WordFacts

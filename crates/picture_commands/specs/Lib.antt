@@ -7,6 +7,8 @@ pub mod Pictures
 pub mod DrawnPictures
 pub mod Proofs
 pub mod Names
+pub mod SizeWords
 pub mod Words
+pub mod ParsedWords
 pub mod Mistakes
 pub mod Usage

@@ -14,6 +14,7 @@ misfit_text misfit.IsInput = codes "is an input"
 misfit_text misfit.NoFormat = codes "no format has this ending"
 misfit_text misfit.SideRange = codes "from 1 to 100000"
 misfit_text misfit.NoColour = codes "needs six hexadecimal digits"
+misfit_text misfit.NoSize = codes "needs WxH, each from 10 to 2000"
 misfit_text misfit.NotUnderstood = codes "not understood"
 
 -- A mistake by its argument and its reason.

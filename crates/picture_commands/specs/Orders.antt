@@ -14,7 +14,8 @@ use Rattle.picture_commands.specs.Mistakes.{mistake_at}
 use Rattle.picture_commands.specs.Pictures.{DesignPictureOrder, design_picture_plan}
 use Rattle.picture_commands.specs.Proofs.{proof_plan}
 use Rattle.picture_commands.specs.Usage.{picture_program_name, picture_usage}
-use Rattle.picture_commands.specs.Words.{ProofOrder, RequestedFile, RequestedPicture, help, parsed_picture_words, picture, proof, version}
+use Rattle.picture_commands.specs.ParsedWords.{parsed_picture_words}
+use Rattle.picture_commands.specs.Words.{ProofOrder, RequestedFile, RequestedPicture, help, picture, proof, version}
 
 -- An order, with a case for each kind of picture. The last prints a text that depends on no file.
 pub data PictureOrder : Type 0 where
@@ -31,6 +32,7 @@ order_made file m = record {
   output = file.output;
   hoop = file.hoop;
   cloth = file.cloth;
+  size = file.size;
 }
 
 -- A hoop or a colour is for designs alone.
@@ -41,7 +43,8 @@ is_hoop_or_cloth (Some hoop) cloth = true
 
 -- The order for the picture of a requested file that is a drawing.
 abbrev pub drawn_order : RequestedFile → DrawnOrder
-drawn_order file = record { drawing = file.input; output = file.output }
+drawn_order file =
+    record { drawing = file.input; output = file.output; size = file.size }
 
 -- The order for a requested file of no format: a drawing has no hoop and no plain picture.
 abbrev pub order_without_format : RequestedFile → Option PictureOrder

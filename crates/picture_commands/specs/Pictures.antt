@@ -7,6 +7,7 @@ use Rattle.design_picture.specs.PlainPictures.{plain_picture_of}
 use Rattle.format_traits.specs.declared.fault.ReadFault.{ReadFault}
 use Rattle.format_traits.specs.declared.loaded.Loaded.{Loaded}
 use Rattle.format_traits.specs.Meanings.{Meaning}
+use Rattle.picture_parts.specs.declared.sizes.PictureSize.{PictureSize}
 use Rattle.program_shell.specs.FileTexts.{read_fault_text}
 use Rattle.program_shell.specs.Plans.{Plan, accepts, reads, refuses}
 use Rattle.program_shell.specs.Products.{one_file_product}
@@ -18,16 +19,18 @@ pub record DesignPictureOrder : Type 0 where
   pub output : List ℕ
   pub hoop : Option Hoop
   pub cloth : Option (List ℕ)
+  pub size : Option PictureSize
 
 -- The picture of a design, with its marks and the hoop if there is one, or plain on a colour.
-abbrev pub picture_on : Option (List ℕ) → Option Hoop → DesignValue → List ℕ
-picture_on None hoop d = picture_of d hoop
-picture_on (Some digits) hoop d = plain_picture_of d digits
+abbrev pub picture_on : Option (List ℕ) → Option Hoop → Option PictureSize → DesignValue → List ℕ
+picture_on None hoop size d = picture_of d hoop size
+picture_on (Some digits) hoop size d = plain_picture_of d digits size
 
 -- The plan for the result of reading the design: its picture is written, and a fault is refused.
 abbrev pub picture_read : DesignPictureOrder → Result Loaded ReadFault → Plan
 picture_read order (Ok loaded) = accepts (λ product. product
-    ≡ one_file_product order.output (picture_on order.cloth order.hoop loaded.design) [])
+    ≡ one_file_product order.output
+    (picture_on order.cloth order.hoop order.size loaded.design) [])
 picture_read order (Err fault) = refuses (read_fault_text order.input fault)
 
 -- The plan of an order: the design is read, then its picture is written.

@@ -18,7 +18,7 @@ use Rattle.picture_commands.specs.Words.{ProofOrder}
 pub record IsProofPicture (order : ProofOrder) (d : DrawingValue) (certs : List PieceCert)
     (product : ProductValue) : Type 0 where
   pub text : List ℕ
-  pub shown : IsShownProof d certs text
+  pub shown : IsShownProof d certs order.size text
   pub made : product ≡ one_file_product order.output text []
 
 -- A certificate that proves nothing of the drawing: the text names its first fault.

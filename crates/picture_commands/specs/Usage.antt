@@ -8,9 +8,9 @@ picture_program_name = codes "stitch_picture"
 
 -- The usage text: what the arguments are.
 abbrev pub picture_usage : List ℕ
-picture_usage = codes "usage: stitch_picture FILE OUT.svg [WIDTH HEIGHT]" ++ (newline
-    ++ (codes "       stitch_picture FILE OUT.svg plain[=RRGGBB]" ++ (newline
-    ++ (codes "       stitch_picture DRAWING OUT.svg" ++ (newline
-    ++ (codes "       stitch_picture DRAWING CERT OUT.svg" ++ (newline
+picture_usage = codes "usage: stitch_picture FILE OUT.svg [WIDTH HEIGHT] [size=WxH]" ++ (newline
+    ++ (codes "       stitch_picture FILE OUT.svg plain[=RRGGBB] [size=WxH]" ++ (newline
+    ++ (codes "       stitch_picture DRAWING OUT.svg [size=WxH]" ++ (newline
+    ++ (codes "       stitch_picture DRAWING CERT OUT.svg [size=WxH]" ++ (newline
     ++ (codes "       stitch_picture --help" ++ (newline
     ++ (codes "       stitch_picture --version" ++ newline))))))))))

@@ -51,10 +51,11 @@ fn drawn<'a>(
 /// Returns the picture of a design, with its marks, or plain on a colour.
 fn picture_of_design(alloc: Global, names: FileNames<'_>, design: &Design) -> Result<Bytes, Memory>
     ensures { IfOk result (λ text. text
-        ≡ picture_on (option_map cloth_digits names.entry.cloth) names.entry.hoop design.now) }
+        ≡ picture_on (option_map cloth_digits names.entry.cloth) names.entry.hoop names.entry.size
+        design.now) }
 {
     match names.cloth {
-        Some(cloth) => plain_picture(alloc, design, cloth.digits),
-        None => picture(alloc, design, names.hoop),
+        Some(cloth) => plain_picture(alloc, design, cloth.digits, names.size),
+        None => picture(alloc, design, names.hoop, names.size),
     }
 }

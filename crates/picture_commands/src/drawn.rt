@@ -30,7 +30,7 @@ fn lines_drawn<'a>(alloc: Global, names: FileNames<'a>, read: &LinesRead) -> Mad
     requires { ArePictureNames names }
     ensures { RunsPurePlan (drawn_read (drawn_order (requested_file names.entry)) (Ok read.now)) result }
 {
-    let text = picture_of_drawing(alloc, &read.drawing, read.drawn.drawing.lines())?;
+    let text = picture_of_drawing(alloc, &read.drawing, read.drawn.drawing.lines(), names.size)?;
     let product = one_output(alloc, names.output, text, Bytes::new(alloc))?;
     Ok(product)
 }

@@ -2,12 +2,15 @@
 //! certificate.
 #![tactic(auto)]
 
+mod cloth_words;
 mod drawing;
 mod drawn;
 mod mistake;
+mod picture_names;
 mod picture_run;
 mod proving;
 mod running;
+mod size_words;
 mod usage;
 mod words;
 

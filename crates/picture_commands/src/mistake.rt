@@ -19,6 +19,8 @@ pub enum Misfit {
     SideRange,
     /// The colour of a plain picture is none.
     NoColour,
+    /// The size of a picture is none, or out of its range.
+    NoSize,
     /// The program takes no such argument.
     NotUnderstood,
 }
@@ -37,6 +39,7 @@ impl Misfit {
             Misfit::NoFormat => b"no format has this ending",
             Misfit::SideRange => b"from 1 to 100000",
             Misfit::NoColour => b"needs six hexadecimal digits",
+            Misfit::NoSize => b"needs WxH, each from 10 to 2000",
             Misfit::NotUnderstood => b"not understood",
         }
     }

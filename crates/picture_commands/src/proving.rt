@@ -48,7 +48,7 @@ fn shown<'a>(alloc: Global, names: ProofNames<'a>, drawing: &Drawing, cert: &Cer
     ensures { RunsPurePlan (satisfies
         (IsProofShown (proof_order names.entry) drawing.now cert.now.pieces)) result }
 {
-    match picture_of_proof(alloc, drawing, cert) {
+    match picture_of_proof(alloc, drawing, cert, names.size) {
         Ok(text) => {
             let product = one_output(alloc, names.output, text, Bytes::new(alloc))?;
             Ok(product)

@@ -15,7 +15,7 @@ pub fn usage() -> &'static [u8]
     ensures value { result.now ≡ picture_usage }
     ensures short { length result.now ≤ MAX_USAGE }
 {
-    b"usage: stitch_picture FILE OUT.svg [WIDTH HEIGHT]\n       stitch_picture FILE OUT.svg plain[=RRGGBB]\n       stitch_picture DRAWING OUT.svg\n       stitch_picture DRAWING CERT OUT.svg\n       stitch_picture --help\n       stitch_picture --version\n"
+    b"usage: stitch_picture FILE OUT.svg [WIDTH HEIGHT] [size=WxH]\n       stitch_picture FILE OUT.svg plain[=RRGGBB] [size=WxH]\n       stitch_picture DRAWING OUT.svg [size=WxH]\n       stitch_picture DRAWING CERT OUT.svg [size=WxH]\n       stitch_picture --help\n       stitch_picture --version\n"
 }
 
 /// Returns the usage text after a mistake, if there is one.

@@ -1,15 +1,17 @@
-ghost use Rattle.outside_io.specs.Files.{IsFileName};
 ghost use Rattle.picture_commands.specs.Mistakes.{mistaken_word};
-ghost use Rattle.picture_commands.specs.Names.{cloth_if, has_svg_ending, is_hex_digit, name_or_mistake, picture_or_mistake, plain_digits, side_if, side_word, unless_input};
-ghost use Rattle.picture_commands.specs.Words.{AreGoodNames, ArePictureNames, cloth_digits, file_of_names, parsed_alone, parsed_file, parsed_in_hoop, parsed_picture_words, parsed_plain, parsed_proof, parsed_three, parsed_words, picture_request, requested_file};
-ghost use Rattle.std.specs.List.{list_all};
+ghost use Rattle.picture_commands.specs.Names.{side_if, side_word};
+ghost use Rattle.picture_commands.specs.ParsedWords.{file_of_names, parsed_alone, parsed_file, parsed_five, parsed_four, parsed_in_hoop, parsed_many, parsed_picture_words, parsed_plain, parsed_proof, parsed_three, parsed_unsized, parsed_words};
+ghost use Rattle.picture_commands.specs.Words.{AreGoodNames, ArePictureNames, picture_request, requested_file};
+ghost use Rattle.picture_commands.specs.SizeWords.{size_text};
 ghost use Rattle.std.specs.Prelude.{◌≡◌, Err, IfErr, IfOk, None, Ok, map, option_map, string_bytes};
 
+use crate::cloth_words::{cloth_in, digits_in};
 use crate::mistake::{Misfit, Mistake};
+use crate::picture_names::{apart, named, picture_named};
+use crate::size_words::{sized, text_of_size};
 use command_words::parse_natural;
 use design_picture::Hoop;
-use outside_io::is_name;
-use text_parts::split_first;
+use picture_parts::PictureSize;
 
 /// The greatest side of a hoop, in tenths of a millimetre.
 pub const MAX_HOOP_SIDE: u32 = 100_000;
@@ -20,21 +22,23 @@ pub struct Cloth<'a> {
     pub digits: &'a [u8],
 }
 
-/// The names for the picture of a file, with the hoop or none, or the colour of a plain picture.
+/// The names for the picture of a file, with the hoop or none, or the colour of a plain picture, and with a size or none.
 #[derive(Clone, Copy)]
 pub struct FileNames<'a> {
     pub input: &'a str,
     pub output: &'a str,
     pub hoop: Option<Hoop>,
     pub cloth: Option<Cloth<'a>>,
+    pub size: Option<PictureSize>,
 }
 
-/// The names for the picture of a drawing and its certificate.
+/// The names for the picture of a drawing and its certificate, with a size or none.
 #[derive(Clone, Copy)]
 pub struct ProofNames<'a> {
     pub drawing: &'a str,
     pub cert: &'a str,
     pub output: &'a str,
+    pub size: Option<PictureSize>,
 }
 
 /// What the arguments request.
@@ -50,8 +54,8 @@ pub enum PictureRequest<'a> {
     Version,
 }
 
-/// Parses the arguments: two file names, with the two sides of a hoop, `plain` or nothing; three file names; or `--help` or `--version`
-/// alone. The error is the first that isn't understood, and `None` without arguments. Allocates nothing.
+/// Parses the arguments: two file names, with the two sides of a hoop, `plain` or nothing, or three file names, each with
+/// a size after them or none; or `--help` or `--version` alone. The error is the first that isn't understood, and `None` without arguments. Allocates nothing.
 pub fn request(words: &[String]) -> Result<PictureRequest<'_>, Option<Mistake<'_>>>
     ensures ok { IfOk result (λ requested.
         parsed_picture_words (map string_bytes words.now) ≡ Ok (picture_request requested)) }
@@ -79,13 +83,17 @@ fn request_after<'a>(word: &'a str, words: &'a [String]) -> Result<PictureReques
         [] => request_alone(word),
         [output] => file_request(word, output.as_str()),
         [second, third] => request_of_three(word, second.as_str(), third.as_str()),
-        [output, width, height] => {
-            hoop_request(word, output.as_str(), width.as_str(), height.as_str())
+        [second, third, fourth] => {
+            request_of_four(word, second.as_str(), third.as_str(), fourth.as_str())
         }
-        [_, _, _, more, ..] => Err(Mistake {
-            word: more.as_str(),
-            why: Misfit::NotUnderstood,
-        }),
+        [output, width, height, fifth, after @ ..] => request_of_many(
+            word,
+            output.as_str(),
+            width.as_str(),
+            height.as_str(),
+            fifth.as_str(),
+            after,
+        ),
     }
 }
 
@@ -119,37 +127,114 @@ fn request_of_three<'a>(
     second: &'a str,
     third: &'a str,
 ) -> Result<PictureRequest<'a>, Mistake<'a>>
-    ensures ok { IfOk result (λ requested. parsed_three first.now second.now third.now
+    ensures ok { IfOk result (λ requested.
+        parsed_three first.now second.now third.now (size_text third.now)
         ≡ Ok (picture_request requested)) }
-    ensures err { IfErr result (λ mistake. parsed_three first.now second.now third.now
+    ensures err { IfErr result (λ mistake.
+        parsed_three first.now second.now third.now (size_text third.now)
+        ≡ Err (mistaken_word mistake)) }
+    ensures names { IfOk result AreGoodNames }
+{
+    match text_of_size(third.as_bytes()) {
+        Some(text) => {
+            let requested = file_request(first, second)?;
+            sized(requested, third, text)
+        }
+        None => unsized_request(first, second, third),
+    }
+}
+
+fn request_of_four<'a>(
+    first: &'a str,
+    second: &'a str,
+    third: &'a str,
+    fourth: &'a str,
+) -> Result<PictureRequest<'a>, Mistake<'a>>
+    ensures ok { IfOk result (λ requested.
+        parsed_four first.now second.now third.now fourth.now (size_text fourth.now)
+        ≡ Ok (picture_request requested)) }
+    ensures err { IfErr result (λ mistake.
+        parsed_four first.now second.now third.now fourth.now (size_text fourth.now)
+        ≡ Err (mistaken_word mistake)) }
+    ensures names { IfOk result AreGoodNames }
+{
+    match text_of_size(fourth.as_bytes()) {
+        Some(text) => {
+            let requested = unsized_request(first, second, third)?;
+            sized(requested, fourth, text)
+        }
+        None => hoop_request(first, second, third, fourth),
+    }
+}
+
+/// Parses five arguments and those after them.
+fn request_of_many<'a>(
+    input: &'a str,
+    output: &'a str,
+    width: &'a str,
+    height: &'a str,
+    fifth: &'a str,
+    after: &'a [String],
+) -> Result<PictureRequest<'a>, Mistake<'a>>
+    ensures ok { IfOk result (λ requested.
+        parsed_many input.now output.now width.now height.now fifth.now (map string_bytes after.now)
+        ≡ Ok (picture_request requested)) }
+    ensures err { IfErr result (λ mistake.
+        parsed_many input.now output.now width.now height.now fifth.now (map string_bytes after.now)
+        ≡ Err (mistaken_word mistake)) }
+    ensures names { IfOk result AreGoodNames }
+{
+    match after {
+        [] => request_of_five(input, output, width, height, fifth),
+        [_, ..] => Err(Mistake {
+            word: fifth,
+            why: Misfit::NotUnderstood,
+        }),
+    }
+}
+
+fn request_of_five<'a>(
+    input: &'a str,
+    output: &'a str,
+    width: &'a str,
+    height: &'a str,
+    last: &'a str,
+) -> Result<PictureRequest<'a>, Mistake<'a>>
+    ensures ok { IfOk result (λ requested.
+        parsed_five input.now output.now width.now height.now last.now (size_text last.now)
+        ≡ Ok (picture_request requested)) }
+    ensures err { IfErr result (λ mistake.
+        parsed_five input.now output.now width.now height.now last.now (size_text last.now)
+        ≡ Err (mistaken_word mistake)) }
+    ensures names { IfOk result AreGoodNames }
+{
+    match text_of_size(last.as_bytes()) {
+        Some(text) => {
+            let requested = hoop_request(input, output, width, height)?;
+            sized(requested, last, text)
+        }
+        None => Err(Mistake {
+            word: last,
+            why: Misfit::NotUnderstood,
+        }),
+    }
+}
+
+/// Parses three arguments without a size.
+fn unsized_request<'a>(
+    first: &'a str,
+    second: &'a str,
+    third: &'a str,
+) -> Result<PictureRequest<'a>, Mistake<'a>>
+    ensures ok { IfOk result (λ requested. parsed_unsized first.now second.now third.now
+        ≡ Ok (picture_request requested)) }
+    ensures err { IfErr result (λ mistake. parsed_unsized first.now second.now third.now
         ≡ Err (mistaken_word mistake)) }
     ensures names { IfOk result AreGoodNames }
 {
     match digits_in(third.as_bytes()) {
         Some(digits) => plain_request(first, second, third, digits),
         None => proof_request(first, second, third),
-    }
-}
-
-/// Returns the digits that `plain` or `plain=RRGGBB` stands for, which may be wrong, or none for another argument.
-fn digits_in(word: &[u8]) -> Option<&[u8]>
-    ensures { option_map (λ digits. digits.now) result ≡ plain_digits word.now }
-{
-    match split_first(word, b'=') {
-        Some((name, value)) => {
-            if name == b"plain".as_slice() {
-                Some(value)
-            } else {
-                None
-            }
-        }
-        None => {
-            if word == b"plain".as_slice() {
-                Some(b"ffffff")
-            } else {
-                None
-            }
-        }
     }
 }
 
@@ -170,6 +255,7 @@ fn plain_request<'a>(
         output,
         hoop,
         cloth: _,
+        size,
     } = file_names(input, output)?;
     let cloth = Some(cloth_in(word, digits)?);
     Ok(PictureRequest::File(FileNames {
@@ -177,40 +263,8 @@ fn plain_request<'a>(
         output,
         hoop,
         cloth,
+        size,
     }))
-}
-
-/// Returns the colour of six hexadecimal digits, in capitals or not.
-fn cloth_in<'a>(word: &'a str, digits: &'a [u8]) -> Result<Cloth<'a>, Mistake<'a>>
-    ensures ok { IfOk result (λ cloth. cloth_if word.now digits.now ≡ Ok (cloth_digits cloth)) }
-    ensures err { IfErr result (λ mistake. cloth_if word.now digits.now ≡ Err (mistaken_word mistake)) }
-{
-    if digits.len() == 6 && are_hex(digits) {
-        Ok(Cloth { digits })
-    } else {
-        Err(Mistake {
-            word,
-            why: Misfit::NoColour,
-        })
-    }
-}
-
-fn are_hex(digits: &[u8]) -> bool
-    ensures { result ≡ list_all is_hex_digit digits.now }
-{
-    for digit in digits {
-        if !is_hex(*digit) {
-            return false;
-        }
-    }
-    true
-}
-
-fn is_hex(digit: u8) -> bool
-    ensures { result ≡ is_hex_digit digit }
-{
-    (digit >= b'0' && digit <= b'9')
-        || ((digit >= b'A' && digit <= b'F') || (digit >= b'a' && digit <= b'f'))
 }
 
 fn hoop_request<'a>(
@@ -230,6 +284,7 @@ fn hoop_request<'a>(
         output,
         hoop: _,
         cloth,
+        size,
     } = file_names(input, output)?;
     let width = side_in(width)?;
     let height = side_in(height)?;
@@ -239,6 +294,7 @@ fn hoop_request<'a>(
         output,
         hoop,
         cloth,
+        size,
     }))
 }
 
@@ -262,10 +318,11 @@ fn proof_request<'a>(
         drawing,
         cert,
         output,
+        size: None,
     }))
 }
 
-/// Returns the names of a file and of its picture, without a hoop or a colour.
+/// Returns the names of a file and of its picture, without a hoop, a colour or a size.
 fn file_names<'a>(input: &'a str, output: &'a str) -> Result<FileNames<'a>, Mistake<'a>>
     ensures ok { IfOk result (λ names. file_of_names input.now output.now ≡ Ok (requested_file names)) }
     ensures err { IfErr result (λ mistake. file_of_names input.now output.now ≡ Err (mistaken_word mistake)) }
@@ -279,6 +336,7 @@ fn file_names<'a>(input: &'a str, output: &'a str) -> Result<FileNames<'a>, Mist
         output,
         hoop: None,
         cloth: None,
+        size: None,
     })
 }
 
@@ -295,62 +353,4 @@ fn side_in(word: &str) -> Result<u32, Mistake<'_>>
             why: Misfit::SideRange,
         }),
     }
-}
-
-/// Returns an argument that is a file name.
-fn named(word: &str) -> Result<&str, Mistake<'_>>
-    ensures ok { IfOk result (λ name. name_or_mistake word.now ≡ Ok name.now) }
-    ensures err { IfErr result (λ mistake. name_or_mistake word.now ≡ Err (mistaken_word mistake)) }
-    ensures name { IfOk result (λ name. IsFileName name.now) }
-{
-    if is_name(word) {
-        Ok(word)
-    } else {
-        Err(Mistake {
-            word,
-            why: Misfit::NotAFileName,
-        })
-    }
-}
-
-/// Returns an argument that is the name of a picture.
-fn picture_named(word: &str) -> Result<&str, Mistake<'_>>
-    ensures ok { IfOk result (λ name. picture_or_mistake word.now ≡ Ok name.now) }
-    ensures err { IfErr result (λ mistake. picture_or_mistake word.now ≡ Err (mistaken_word mistake)) }
-    ensures name { IfOk result (λ name. IsFileName name.now) }
-{
-    let name = named(word)?;
-    if is_svg(name) {
-        Ok(name)
-    } else {
-        Err(Mistake {
-            word: name,
-            why: Misfit::NotAPicture,
-        })
-    }
-}
-
-/// Returns the name of a picture, if it differs from that of an input.
-fn apart<'a>(input: &str, output: &'a str) -> Result<&'a str, Mistake<'a>>
-    requires { IsFileName output.now }
-    ensures ok { IfOk result (λ name. unless_input input.now output.now ≡ Ok name.now) }
-    ensures err { IfErr result (λ mistake. unless_input input.now output.now ≡ Err (mistaken_word mistake)) }
-    ensures name { IfOk result (λ name. IsFileName name.now) }
-{
-    if input == output {
-        Err(Mistake {
-            word: output,
-            why: Misfit::IsInput,
-        })
-    } else {
-        Ok(output)
-    }
-}
-
-fn is_svg(word: &str) -> bool
-    ensures { result ≡ has_svg_ending word.now }
-{
-    let bytes = word.as_bytes();
-    let (_, tail) = bytes.split_at(bytes.len().saturating_sub(4));
-    tail == b".svg".as_slice()
 }

@@ -4,3 +4,4 @@ mod ColourFacts
 mod AgainFacts
 mod ThreadNameFacts
 mod MarkFacts
+mod SizeFacts

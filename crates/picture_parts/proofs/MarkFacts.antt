@@ -45,10 +45,10 @@ text_after_words words (c ∷ text) = if bytes_eq (take (length words) (c ∷ te
 abbrev style_colour : ℕ → List ℕ → List ℕ
 style_colour n words = take (1 + n) (text_after_words words style_text)
 
--- A start is green and an end red, a needle hole dark, and what is sewn again blue. The outline of a hoop that is too small is red.
+-- A start is green and an end red, and a needle hole dark. The outline of a hoop that is too small is red.
 pub known_styles :
-    (map (style_colour 6) (codes ".start{fill:" ∷ codes ".end{fill:" ∷ codes ".second{fill:none;stroke-width:3;stroke:" ∷ [])
-    ≡ codes "#1a7f37" ∷ codes "#b3261e" ∷ codes "#1d3bd1" ∷ [])
+    (map (style_colour 6) (codes ".start{fill:" ∷ codes ".end{fill:" ∷ [])
+    ≡ codes "#1a7f37" ∷ codes "#b3261e" ∷ [])
     × (map (style_colour 3) (codes ".hole{fill:none;stroke:" ∷ codes ".over{stroke:" ∷ []) ≡ codes "#222" ∷ codes "#d00" ∷ [])
 known_styles = (refl, refl)
 

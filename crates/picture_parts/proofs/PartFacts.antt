@@ -1,10 +1,10 @@
 -- Worked values of parts and colours.
-use Rattle.std.proofs.Common.{◌≡◌, ℤ, pos, negsuc, [], ◌∷◌, ◌++◌, codes, map, refl}
+use Rattle.std.proofs.Common.{◌≡◌, ℤ, pos, negsuc, [], ◌∷◌, ◌++◌, None, codes, map, refl}
 use Rattle.std.specs.Fmt.{digits}
 use Rattle.design_model.specs.declared.point.Point.{Point}
 use Rattle.picture_parts.specs.Colours.{colour_of_thread}
 use Rattle.picture_parts.specs.Parts.{escaped_text, filled, mm_text}
-use Rattle.picture_parts.specs.Sheets.{head_text, style_text}
+use Rattle.picture_parts.specs.Sheets.{head_text, sheet_head, style_text}
 
 abbrev pub point : ℤ → ℤ → Point
 point x y = record { x = x; y = y }
@@ -29,7 +29,7 @@ unfolding filled
 known_filled = refl
 
 -- 30 mm by 26 mm, from 5 mm left of the origin
-pub known_head : head_text (record { corner = point (negsuc 49) (pos 7); width = 300; height = 260 })
+pub known_head : sheet_head (record { corner = point (negsuc 49) (pos 7); width = 300; height = 260; size = None })
     ≡ codes "<svg xmlns='http://www.w3.org/2000/svg' width='30.0mm' height='26.0mm' viewBox='-50,7,300,260'>"
     ++ (10 ∷ codes "<path fill='#d9d1be' d='M-50,7h300v260h-300z'/>" ++ (10 ∷ style_text))
 unfolding head_text filled digits

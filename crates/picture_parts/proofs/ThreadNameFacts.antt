@@ -1,5 +1,5 @@
 -- The 64 names of the palette, as pyembroidery lists them in `EmbThreadPec.py`.
-use Rattle.std.proofs.Common.{◌≡◌, ℕ, List, [], ◌∷◌, codes, map, refl}
+use Rattle.std.proofs.Common.{◌≡◌, [], ◌∷◌, codes, map, refl}
 use Rattle.std.specs.List.{range_with_len}
 use Rattle.picture_parts.specs.ThreadNames.{name_of_thread}
 

@@ -5,5 +5,6 @@ pub mod Marks
 pub mod Colours
 pub mod AgainColours
 pub mod ThreadNames
+pub mod Sizes
 pub mod Sheets
 pub mod PlainSheets

@@ -1,9 +1,10 @@
 -- The sheet that a picture is drawn on: a text of SVG 1.1, the standard of the World Wide Web
--- Consortium. The unit is a tenth of a millimetre, and a picture has its true size.
+-- Consortium. The unit is a tenth of a millimetre. A picture has its true size, or fits another.
 use Rattle.std.specs.Prelude.{ℕ, List, [], ◌∷◌, ◌++◌, codes}
 use Rattle.std.specs.Fmt.{decimal}
 use Rattle.picture_parts.specs.declared.sheet.Sheet.{Sheet}
 use Rattle.picture_parts.specs.Parts.{ended, filled, mm_text, point_text}
+use Rattle.picture_parts.specs.Sizes.{height_in, width_in}
 
 -- The styles of texts, threads, needle holes, travels, marks and bands, and the arrows along a
 -- thread and along a travel.
@@ -12,7 +13,7 @@ style_text =
     codes "<style>text{font:22px sans-serif;fill:#222;paint-order:stroke;stroke:#d9d1be;s"
     ++ (codes "troke-width:5;stroke-linejoin:round}"
     ++ (10 ∷ codes "path{stroke-linecap:round;stroke-linejoin:round}.thread{fill:none;"
-    ++ (codes "stroke-width:3}.second{fill:none;stroke-width:3;stroke:#1d3bd1}"
+    ++ (codes "stroke-width:3}"
     ++ (10 ∷ codes ".again{fill:none;stroke-width:3;stroke-dasharray:6 5;stroke-linecap:butt}"
     ++ (codes ".outside{fill:none;stroke:#d00;stroke-width:8;opacity:.6}"
     ++ (10 ∷ codes ".hole{fill:none;stroke:#222;stroke-width:2.6}.line{fill:none;stroke:#555;strok"
@@ -33,15 +34,21 @@ style_text =
     ++ (codes "<path d='M4,3L13,8L4,13' fill='none' stroke='#555' stroke-width='1.5'/></marke"
     ++ (ended (codes "r></defs>")))))))))))))))))))))))
 
--- The text before the title of a picture: its size in millimetres, the rectangle that it shows, the
--- sheet in the colour of unbleached cloth, styles and arrows.
-unfoldable pub head_text : Sheet → List ℕ
-head_text sheet = filled (codes "<svg xmlns='http://www.w3.org/2000/svg' width='@mm' height='@mm'"
+-- The text before the title of a picture of a width and a height: these in millimetres, the
+-- rectangle that it shows, the sheet in the colour of unbleached cloth, styles and arrows.
+unfoldable pub head_text : Sheet → (width height : ℕ) → List ℕ
+head_text sheet width height =
+    filled (codes "<svg xmlns='http://www.w3.org/2000/svg' width='@mm' height='@mm'"
     ++ (codes " viewBox='@,@,@'>" ++ (10 ∷ codes "<path fill='#d9d1be' d='M@h@v@h-@z'/>"
     ++ (10 ∷ codes "@"))))
-    (mm_text sheet.width ∷ mm_text sheet.height ∷ point_text sheet.corner ∷ decimal sheet.width
+    (mm_text width ∷ mm_text height ∷ point_text sheet.corner ∷ decimal sheet.width
     ∷ decimal sheet.height ∷ point_text sheet.corner ∷ decimal sheet.width ∷ decimal sheet.height
     ∷ decimal sheet.width ∷ style_text ∷ [])
+
+-- The text before the title of the picture of a sheet.
+abbrev pub sheet_head : Sheet → List ℕ
+sheet_head sheet =
+    head_text sheet (width_in sheet.size sheet.width) (height_in sheet.size sheet.height)
 
 -- The end of a picture, and of the two groups that it ends with.
 unfoldable pub foot_text : List ℕ

@@ -10,6 +10,7 @@ mod parts;
 mod paths;
 mod plain_sheet;
 mod sheet;
+mod sizes;
 mod thread_names;
 
 pub use again_colours::again_colour;
@@ -20,4 +21,5 @@ pub use parts::{Part, put, put_around};
 pub use paths::{put_coloured_path, put_move, put_path_end, put_path_start, put_straight};
 pub use plain_sheet::{put_plain_foot, put_plain_head, put_plain_title};
 pub use sheet::{Sheet, put_foot, put_head};
+pub use sizes::{PictureSize, put_scale};
 pub use thread_names::thread_name;

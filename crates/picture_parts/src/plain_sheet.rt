@@ -3,9 +3,10 @@ ghost use Rattle.std.specs.Prelude.{◌≡◌, ◌++◌, OnOk};
 
 use crate::parts::{Part, put};
 use crate::sheet::Sheet;
+use crate::sizes::{shown_height, shown_width};
 use design_model::{Bytes, Memory};
 
-/// Appends the beginning of a picture of the thread alone, in its true size, on a colour of six hexadecimal digits.
+/// Appends the beginning of a picture of the thread alone, on a colour of six hexadecimal digits.
 #[tactic(auto, unfolding(crate::specs::PlainSheets::plain_head_text))]
 pub fn put_plain_head(text: &mut Bytes, sheet: Sheet, digits: &[u8]) -> Result<(), Memory>
     ensures { OnOk result (text.new ≡ text.old ++ plain_head_text sheet digits.now) }
@@ -19,8 +20,8 @@ pub fn put_plain_head(text: &mut Bytes, sheet: Sheet, digits: &[u8]) -> Result<(
         <path fill='#@' d='M@h@v@h-@z'/>\n\
         <style>.thread{fill:none;stroke-width:3;stroke-linecap:round;stroke-linejoin:round}</style>\n",
         &[
-            Part::Mm(width),
-            Part::Mm(height),
+            Part::Mm(shown_width(sheet)),
+            Part::Mm(shown_height(sheet)),
             Part::At(sheet.corner),
             Part::Number(width),
             Part::Number(height),

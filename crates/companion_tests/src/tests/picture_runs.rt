@@ -27,16 +27,36 @@ const LOOSE: &[u8] =
     b"redwork 3\nname loose\nstep 10\ncolor 5\nline 0 0 20 0\nline 20 0 40 0 40 10\ncolor 1\nline 0 20 18 20\nline 20 15 20 30\n";
 
 const TEXT_OF_USAGE: &str =
-    "usage: stitch_picture FILE OUT.svg [WIDTH HEIGHT]\n       stitch_picture FILE OUT.svg plain[=RRGGBB]\n       stitch_picture DRAWING OUT.svg\n       stitch_picture DRAWING CERT OUT.svg\n       stitch_picture --help\n       stitch_picture --version\n";
+    "usage: stitch_picture FILE OUT.svg [WIDTH HEIGHT] [size=WxH]\n       stitch_picture FILE OUT.svg plain[=RRGGBB] [size=WxH]\n       stitch_picture DRAWING OUT.svg [size=WxH]\n       stitch_picture DRAWING CERT OUT.svg [size=WxH]\n       stitch_picture --help\n       stitch_picture --version\n";
 
 /// Arguments, the status of their run, and what it prints on the standard error, where the usage text follows status 2.
 type PictureCase = (&'static [&'static str], u8, &'static str);
 
-const CASES: [PictureCase; 25] = [
+const CASES: [PictureCase; 33] = [
     (&["a.lst", "a.svg"], 0, ""),
     (&["a.lst", "a.svg", "700", "300"], 0, ""),
     (&["a.lst", "a.svg", "plain"], 0, ""),
     (&["a.lst", "a.svg", "plain=00fF99"], 0, ""),
+    (&["a.lst", "a.svg", "size=210x297"], 0, ""),
+    (&["a.lst", "a.svg", "700", "300", "size=10x2000"], 0, ""),
+    (&["a.lst", "a.svg", "plain", "size=2000x10"], 0, ""),
+    (&["a.rw", "a.svg", "size=210x297"], 0, ""),
+    (&["a.rw", "a.cert", "a.svg", "size=210x297"], 0, ""),
+    (
+        &["a.lst", "a.svg", "size=9x2000"],
+        2,
+        "stitch_picture: size=9x2000: needs WxH, each from 10 to 2000\n",
+    ),
+    (
+        &["a.rw", "a.cert", "a.svg", "size=a4"],
+        2,
+        "stitch_picture: size=a4: needs WxH, each from 10 to 2000\n",
+    ),
+    (
+        &["a.lst", "a.svg", "7", "9", "size=10x10", "y"],
+        2,
+        "stitch_picture: size=10x10: not understood\n",
+    ),
     (
         &["a.lst", "a.svg", "plain=red"],
         2,
@@ -132,9 +152,9 @@ const CASES: [PictureCase; 25] = [
 type DrawnCase = (&'static [&'static str], &'static [&'static [u8]]);
 
 /// What is sewn again is drawn beside the first and in dashes; in a hoop that is too small stitches outside are drawn once
-/// more, and the key says so; a plain picture has the thread alone; a proof shows what is sewn again and its cuts; a drawing shows its
-/// lines, the junctions of its first piece, its loose end, and the counts.
-const PICTURES: [DrawnCase; 5] = [
+/// more, and the key says so; a plain picture has the thread alone; a picture that is to fit a size has its scale; a proof shows what
+/// is sewn again and its cuts; a drawing shows its lines, the junctions of its first piece, its loose end, and the counts.
+const PICTURES: [DrawnCase; 9] = [
     (
         &["a.lst", "a.svg"],
         &[
@@ -158,6 +178,32 @@ const PICTURES: [DrawnCase; 5] = [
             b"<path fill='#00fF99' d='M0,0h180v120h-180z'/>\n<style>",
             b"<g transform='translate(60,60)'>\n<path class='thread' stroke='#ed171f' d='\nM0,0L30,0L60,0A30,30,0,0,1,30,0A30,30,0,0,1,0,0'/>\n</g>\n</svg>\n",
         ],
+    ),
+    (
+        &["a.lst", "a.svg", "700", "300", "size=30x40"],
+        &[
+            b" width='30.0mm' height='40.0mm' viewBox='0,0,1320,666'>\n",
+            b" 6.0 x 0.0 mm</text>\n<text x='220' y='7'>scale 1 : 4.4</text>\n",
+            b"hoop 70.0 x 30.0 mm: fits</text>",
+        ],
+    ),
+    (
+        &["a.lst", "a.svg", "plain", "size=45x45"],
+        &[
+            b" width='45.0mm' height='45.0mm' viewBox='0,0,180,120'>\n",
+            b"</style>\n<desc>scale 2.5 : 1</desc>\n<title>",
+        ],
+    ),
+    (
+        &["a.rw", "a.svg", "size=210x297"],
+        &[
+            b" width='210.0mm' height='297.0mm' viewBox='0,0,",
+            b"scale 2.4 : 1</text>\n<text y='72'>pieces 1",
+        ],
+    ),
+    (
+        &["a.rw", "a.cert", "a.svg", "size=68x10"],
+        &[b" width='68.0mm' height='10.0mm' viewBox='0,0,680,", b"</text>\n<text x='220' y='7'>scale 1 : 4.8</text>\n"],
     ),
     (
         &["a.rw", "a.cert", "a.svg"],

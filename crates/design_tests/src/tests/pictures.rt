@@ -26,7 +26,7 @@ fn a_picture_shows_the_acts_in_order(rt: HostRuntime) -> Result<(), Fail> {
         ),
     ];
     for (commands, part) in table {
-        let text = picture(rt.alloc(), &design_of(rt.alloc(), &commands)?, None)?;
+        let text = picture(rt.alloc(), &design_of(rt.alloc(), &commands)?, None, None)?;
         let found = memmem::find(text.as_slice(), part.as_bytes());
         assert!(rt; found.is_some(), "{part}");
     }
@@ -54,7 +54,7 @@ fn a_hoop_that_is_too_small_is_red(rt: HostRuntime) -> Result<(), Fail> {
         ),
     ];
     for (width, height, part) in table {
-        let text = picture(rt.alloc(), &design, Some(Hoop { width, height }))?;
+        let text = picture(rt.alloc(), &design, Some(Hoop { width, height }), None)?;
         let found = memmem::find(text.as_slice(), part.as_bytes());
         assert!(rt; found.is_some(), "{part}");
     }

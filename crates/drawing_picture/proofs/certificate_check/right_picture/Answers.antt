@@ -15,6 +15,6 @@ proof_picture-requires-clause-there c =
     (lines_there (length c.args.d.now.lines) _ c.in_ok-pieces.ensures.cut.are.there)
 
 pub returns : goal.returns
-returns c = shown_of c.pieces_are_unique.ensures c.right_certificates_are_sewn.ensures _ _ _ _ _ c.keeps_limits.ensures.limits
+returns c = shown_of c.pieces_are_unique.ensures c.right_certificates_are_sewn.ensures _ _ _ _ _ _ c.keeps_limits.ensures.limits
     c.requires.right c.in_ok-pieces.ensures.cut c.in_ok-design.ensures
     (rw (c.as_slice.ensures, c.as_slice-2.ensures) at c.in_ok-text.ensures)

@@ -1,7 +1,7 @@
 use Rattle.std.proofs.Common.{◌≡◌, drop}
 use Rattle.std.specs.List.{list_all}
 use Rattle.picture_commands.specs.Names.{is_hex_digit}
-use Rattle.picture_commands.proofs.words.are_hex.Given as goal
+use Rattle.picture_commands.proofs.cloth_words.are_hex.Given as goal
 
 -- the digits that are left decide
 abbrev pub invariant-loop-digit : goal.invariant-loop-digit
