@@ -155,12 +155,48 @@ def block_of(lines, label):
     return pec_block(label, threads_of(lines), needles_of(lines), body + b"\xff")
 
 
-def pec(*lines, label=""):
-    return b"#PEC0001" + block_of(lines, label)
+def pec(*lines, label="", drawn=False):
+    return with_thumbnails(lines, b"#PEC0001" + block_of(lines, label), drawn)
 
 
-def pes(*lines, label=""):
-    return b"#PES0001\x16" + b"\0" * 13 + block_of(lines, label)
+def pes(*lines, label="", drawn=False):
+    return with_thumbnails(lines, b"#PES0001\x16" + b"\0" * 13 + block_of(lines, label), drawn)
+
+
+def with_thumbnails(lines, file, drawn):
+    made = thumbnails(lines) if drawn else b""
+    return file[:len(file) - len(made)] + made
+
+
+def thumbnails(lines):
+    """The thumbnails of a design: of all its blocks, then of each."""
+    least, most = [[pick(values) for values in zip(*needles_of(lines))] or [0, 0] for pick in (min, max)]
+    size = [high - low for low, high in zip(least, most)]
+    full = max(29 * size[0], 39 * size[1], 1)
+
+    def shrunk(length):
+        return length * 39 * 29 // full
+
+    def shown(point):
+        return tuple(4 + (room - shrunk(long)) // 2 + shrunk(one - low)
+                     for one, low, long, room in zip(point, least, size, (39, 29)))
+
+    blocks, last = [], None
+    for line in lines:
+        word, *numbers = line.split()
+        if word == "block":
+            blocks.append(set())
+        if word not in ("needle", "float"):
+            last = None
+            continue
+        to = shown(map(int, numbers))
+        start = last if word == "needle" and last else to
+        steps = max(abs(b - a) for a, b in zip(start, to))
+        blocks[-1] |= {to} | {tuple((a * (steps - step) + b * step + steps // 2) // steps for a, b in zip(start, to))
+                              for step in range(steps)}
+        last = to
+    return b"".join(bytes(sum(1 << bit for bit in range(8) if (column + bit, row) in lit) for row in range(38)
+                          for column in range(0, 48, 8)) for lit in [set().union(*blocks), *blocks])
 
 
 MAKERS = {"dst": dst, "exp": exp, "pec": pec, "pes": pes, "lst": lst}

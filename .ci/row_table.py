@@ -586,6 +586,29 @@ row("edits of designs", {"a.lst": lst(*SHOP)},
         "e.lst": lst("block 5", *path(161, -40, 101, -40, 41, -40), "trim", "needle -37 -40", "float -159 -40", "block 7",
                      "block 1", *path(161, -16, 161, -12, 161, 40))}))
 
+# The thumbnails of the design that is written, wherever the edit stands: of a design that is wide, one that is high, one that
+# is a single needle, and one without a needle. They are read as blank ones are.
+HIGH = ["block 3", "needle 0 -50", "needle 7 -30", "float 20 -30", "needle 0 150", "trim", "needle 20 150", "needle -9 11",
+        "block 4"]
+row("thumbnails of designs", {"a.lst": lst(*SHOP), "high.lst": lst(*HIGH), "one.lst": lst("block 1", "needle 5 -9"),
+                              "none.lst": lst("block 1", "block 2")},
+    done("stitch_design edit a.lst b.pes thumbnails", SHOP_REPORT, {"b.pes": pes(*SHOP, drawn=True)}),
+    done("stitch_design edit b.pes c.pec thumbnails tie", TIED_REPORT, {"c.pec": pec(*TIED, drawn=True)}),
+    done("stitch_design compare a.lst b.pes --threads", ""), done("stitch_design compare b.pes a.lst --threads", ""),
+    done("stitch_design edit c.pec d.pec bare", SHOP_REPORT, {"d.pec": pec(*SHOP)}),
+    done("stitch_design edit high.lst d.PES thumbnails thumbnails", "needles 6 trims 1 stops 1\n", {
+        "d.PES": pes(*HIGH, drawn=True)}),
+    done("stitch_design edit one.lst d.pec name=one thumbnails", "needles 1 trims 0 stops 0\n", {
+        "d.pec": pec("block 1", "needle 5 -9", label="one", drawn=True)}),
+    done("stitch_design edit none.lst d.pec thumbnails", "needles 0 trims 0 stops 1\n", {"d.pec": pec("block 1", "block 2")}),
+    *[refused(f"stitch_design edit a.lst e.{ending} scale=900 thumbnails", f"e.{ending}: no thumbnails in this format")
+      for ending in ("dst", "exp", "lst")],
+    refused("stitch_design edit a.lst e.pec scale=1000 thumbnails shift=30000,0", "a.lst: edit 3: command 2 moved out of range"),
+    misused("stitch_design edit a.lst e.pec thumbnails=1", "thumbnails=1: not an edit"))
+assert ROWS[-1].steps[0].after["b.pes"][-912:].hex() == "".join(6 * count * "00" if not row else row * count for count, row in (
+    (14, ""), (1, "f0ff07100008"), (1, ""), (8, "100000000000"), (28, ""), (1, "f0ff07100008"), (77, ""), (8, "100000000000"),
+    (14, "")))
+
 row("edits of designs that are refused", {"a.lst": lst(*SHOP), "far.lst": lst("block 1", *path(29900, 0, 30000, 0)),
                                           "full.exp": bytes(2 * MILLION)},
     refused("stitch_design edit far.lst b.lst turn=0 shift=1,0", "far.lst: edit 2: command 2 moved out of range"),

@@ -199,7 +199,7 @@ EXCEPTIONS = {
     "drawing_commands/space_words.rt": ["length", "leeway"],
     "design_commands/requests.rt": ["look", "pass", "edit", "compare", "threads", "--threads", "--help", "--version"],
     "design_commands/limit_words.rt": ["short", "long", "float", "tie", "hole"],
-    "edited_designs/edit_arguments.rt": ["tie", "bare", "centre", "drop-empty", "name"],
+    "edited_designs/edit_arguments.rt": ["tie", "bare", "centre", "drop-empty", "thumbnails", "name"],
     "edited_designs/edit_mistakes.rt": ["name"],
     "edited_designs/edit_keys.rt": ["tie", "cut", "float", "merge", "bean", "scale"],
     # A fault of memory isn't described by these: callers end with status 4 before.

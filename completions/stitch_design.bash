@@ -13,7 +13,7 @@ _stitch_design() {
             ;;
         4:compare) mapfile -t COMPREPLY < <(compgen -W '--threads' -- "$word") ;;
         *:look | *:pass) mapfile -t COMPREPLY < <(compgen -W 'short= long= float= tie= hole=' -- "$word") ;;
-        *:edit) mapfile -t COMPREPLY < <(compgen -W 'tie tie= bare centre cut= float= merge= bean= scale= drop-empty name= shift= turn= mirror=x mirror=y thread=' -- "$word") ;;
+        *:edit) mapfile -t COMPREPLY < <(compgen -W 'tie tie= bare centre cut= float= merge= bean= scale= drop-empty thumbnails name= shift= turn= mirror=x mirror=y thread=' -- "$word") ;;
     esac
 }
 complete -F _stitch_design stitch_design

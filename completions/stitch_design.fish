@@ -17,4 +17,4 @@ complete -c stitch_design -n '__stitch_design_at 2; and __stitch_design_does loo
 complete -c stitch_design -n '__stitch_design_at 3; and __stitch_design_does edit compare' -a '(__stitch_design_files)'
 complete -c stitch_design -n '__stitch_design_at 4; and __stitch_design_does compare' -a '--threads' -d compare
 complete -c stitch_design -n '__stitch_design_does look pass; and test (count (commandline -opc)) -gt 2' -a 'short= long= float= tie= hole=' -d limit
-complete -c stitch_design -n '__stitch_design_does edit; and test (count (commandline -opc)) -gt 3' -a 'tie tie= bare centre cut= float= merge= bean= scale= drop-empty name= shift= turn= mirror=x mirror=y thread=' -d edit
+complete -c stitch_design -n '__stitch_design_does edit; and test (count (commandline -opc)) -gt 3' -a 'tie tie= bare centre cut= float= merge= bean= scale= drop-empty thumbnails name= shift= turn= mirror=x mirror=y thread=' -d edit

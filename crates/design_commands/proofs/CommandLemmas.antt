@@ -20,9 +20,10 @@ use Rattle.design_commands.specs.Commands.{DesignOrder, comparing, design_output
 use Rattle.design_commands.specs.CompareOrders.{CompareOrder, compare_first, compare_second, compared, compared_acts, compared_threads}
 use Rattle.program_texts.specs.MistakenWords.{MistakenWord}
 use Rattle.program_texts.specs.CompanionUsage.{usage_with}
-use Rattle.design_commands.specs.EditOrders.{DesignEditOrder, design_edit_read, edited_design_plan}
-use Rattle.design_commands.specs.DesignOutputs.{IsDesignOutput, IsUnwritableText, WritesDesign}
+use Rattle.design_commands.specs.EditOrders.{DesignEditOrder, design_edit_read, edited_design_plan, pictured_by, written_by}
+use Rattle.design_commands.specs.DesignOutputs.{IsDesignOutput, IsPicturedOutput, IsUnwritableText, WritesDesign, WritesPictured, has_thumbnails}
 use Rattle.edited_designs.specs.declared.design_fault.BadDesignEdit.{BadDesignEdit}
+use Rattle.edited_designs.specs.DesignChanges.{draws_thumbnails}
 use Rattle.edited_designs.specs.EditedInOrder.{edited_in_order}
 use Rattle.format_traits.specs.Meanings.{Meaning}
 use Rattle.program_shell.specs.Products.{ProductValue}
@@ -52,10 +53,28 @@ not_both output target d product text made none =
     let refused : target.writes d ≡ Err none.fault = none.refuses in
     cc
 
+never_both : (output : List ℕ) (target : Meaning) (d : DesignValue) (product : ProductValue) (text : List ℕ)
+    → IsPicturedOutput output target d product → IsUnwritableText output target d text → ⊥
+never_both output target d product text made none =
+    let written : target.writes d ≡ Ok made.out = made.written in
+    let refused : target.writes d ≡ Err none.fault = none.refuses in
+    cc
+
+pictured_sound : (has : Bool) (output : List ℕ) (target : Meaning) (d : DesignValue)
+    → IsSoundPlan (output ∷ []) (pictured_by has output target d)
+pictured_sound true output target d = satisfies_sound (output ∷ []) (WritesPictured output target d)
+    (λ product is. named product _ is.made) (λ product text made none. never_both output target d product text made none)
+pictured_sound false output target d = refuses_sound (output ∷ []) _
+
+written_sound : (drawn : Bool) (output : List ℕ) (target : Meaning) (d : DesignValue)
+    → IsSoundPlan (output ∷ []) (written_by drawn output target d)
+written_sound true output target d = pictured_sound (has_thumbnails target) output target d
+written_sound false output target d = satisfies_sound (output ∷ []) (WritesDesign output target d)
+    (λ product is. named product _ is.made) (λ product text made none. not_both output target d product text made none)
+
 edited_sound : (order : DesignEditOrder) (edited : Result DesignValue BadDesignEdit)
     → IsSoundPlan (order.output ∷ []) (edited_design_plan order edited)
-edited_sound order (Ok d) = satisfies_sound (order.output ∷ []) (WritesDesign order.output order.target d)
-    (λ product is. named product _ is.made) (λ product text made none. not_both order.output order.target d product text made none)
+edited_sound order (Ok d) = written_sound (draws_thumbnails order.changes) order.output order.target d
 edited_sound order (Err bad) = refuses_sound (order.output ∷ []) _
 
 -- The plan of each order is sound.

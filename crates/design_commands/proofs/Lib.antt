@@ -3,3 +3,4 @@ mod FormatLemmas
 pub mod Names
 mod RequestFacts
 mod TextFacts
+mod OutputFacts

@@ -1,7 +1,7 @@
 -- Worked requests, and mistakes of arguments: the first that isn't understood is named, with what is wrong with it.
 use Rattle.std.proofs.Common.{◌≡◌, ◌∷◌, [], ℕ, List, Some, None, Ok, Err, true, false, codes, refl}
 use Rattle.program_texts.specs.MistakenWords.{mistaken}
-use Rattle.edited_designs.specs.DesignChanges.{bared, needled, tied}
+use Rattle.edited_designs.specs.DesignChanges.{bared, needled, pictured, tied}
 use Rattle.design_commands.specs.Commands.{design_mistake, design_order, telling}
 use Rattle.design_commands.specs.EditRequests.{RequestedDesign, compare, edit, help, list, look, palette, pass, version}
 use Rattle.design_commands.specs.Requests.{parsed_design_words}
@@ -25,7 +25,9 @@ known_requests = (refl, refl, refl, refl, refl, refl, refl, refl)
 pub known_edits :
     Requests (codes "edit" ∷ codes "a" ∷ codes "b" ∷ codes "bare" ∷ codes "tie" ∷ codes "drop-empty" ∷ [])
     (edit (codes "a") (codes "b") (bared ∷ tied 7 ∷ needled ∷ []))
-known_edits = refl
+    × Requests (codes "edit" ∷ codes "a" ∷ codes "b" ∷ codes "thumbnails" ∷ codes "bare" ∷ [])
+    (edit (codes "a") (codes "b") (pictured ∷ bared ∷ []))
+known_edits = (refl, refl)
 
 -- arguments of which one isn't understood, over no format
 abbrev IsMistaken : List (List ℕ) → (word why : List ℕ) → Type 0

@@ -1,16 +1,16 @@
 -- The command `edit`: a design is read, edited and written. Edits are numbered from 1.
-use Rattle.std.specs.Prelude.{ℕ, List, ◌++◌, Result, Ok, Err, codes, decimal}
+use Rattle.std.specs.Prelude.{ℕ, Bool, true, false, List, ◌++◌, Result, Ok, Err, codes, decimal}
 use Rattle.design_model.specs.Designs.{DesignValue}
-use Rattle.design_commands.specs.DesignOutputs.{WritesDesign}
+use Rattle.design_commands.specs.DesignOutputs.{WritesDesign, WritesPictured, has_thumbnails}
 use Rattle.edited_designs.specs.declared.design_fault.BadDesignEdit.{BadDesignEdit}
 use Rattle.edited_designs.specs.declared.design_fault.DesignFault.{DesignFault}
 use Rattle.edited_designs.specs.declared.design_fault.DesignFault.TheVariants as fault
-use Rattle.edited_designs.specs.DesignChanges.{DesignChange}
+use Rattle.edited_designs.specs.DesignChanges.{DesignChange, draws_thumbnails}
 use Rattle.edited_designs.specs.EditedInOrder.{edited_in_order}
 use Rattle.format_traits.specs.declared.fault.ReadFault.{ReadFault}
 use Rattle.format_traits.specs.declared.loaded.Loaded.{Loaded}
 use Rattle.format_traits.specs.Meanings.{Meaning}
-use Rattle.program_shell.specs.FileTexts.{read_fault_text, text_at}
+use Rattle.program_shell.specs.FileTexts.{read_fault_text, text_about, text_at}
 use Rattle.program_shell.specs.Plans.{Plan, reads, refuses, satisfies}
 
 -- The order of `edit`: the design to read, the file to write, their formats, and the edits.
@@ -46,9 +46,25 @@ abbrev pub bad_design_edit_text : List ℕ → BadDesignEdit → List ℕ
 bad_design_edit_text name bad =
     text_at name (codes "edit") bad.number (design_fault_text bad.fault)
 
+-- The plan to write a design with its thumbnails, given whether the format has some.
+abbrev pub pictured_by : Bool → List ℕ → Meaning → DesignValue → Plan
+pictured_by true output target d = satisfies (WritesPictured output target d)
+pictured_by false output target d =
+    refuses (text_about output (codes "no thumbnails in this format"))
+
+-- The plan to write a design with its thumbnails, if the format has some.
+abbrev pub pictured_plan : List ℕ → Meaning → DesignValue → Plan
+pictured_plan output target d = pictured_by (has_thumbnails target) output target d
+
+-- The plan to write a design, given whether its thumbnails are drawn.
+abbrev pub written_by : Bool → List ℕ → Meaning → DesignValue → Plan
+written_by true output target d = pictured_plan output target d
+written_by false output target d = satisfies (WritesDesign output target d)
+
 -- The plan for the result of the edits: the edited design is written, and a bad edit is refused.
 abbrev pub edited_design_plan : DesignEditOrder → Result DesignValue BadDesignEdit → Plan
-edited_design_plan order (Ok d) = satisfies (WritesDesign order.output order.target d)
+edited_design_plan order (Ok d) =
+    written_by (draws_thumbnails order.changes) order.output order.target d
 edited_design_plan order (Err bad) = refuses (bad_design_edit_text order.input bad)
 
 -- The plan for the result of reading the design: it is edited, and a fault is refused.

@@ -1,15 +1,19 @@
 ghost use Rattle.command_words.specs.ValidNames.{AreFileNames};
-ghost use Rattle.design_commands.specs.EditOrders.{design_edit_order, design_edit_plan, edited_design_plan};
+ghost use Rattle.design_commands.specs.EditOrders.{design_edit_order, design_edit_plan, edited_design_plan, written_by};
+ghost use Rattle.edited_designs.specs.DesignChanges.{draws_thumbnails};
 ghost use Rattle.edited_designs.specs.EditArguments.{changes_of, parsed_changes};
 ghost use Rattle.edited_designs.specs.EditedInOrder.{edited_in_order};
 ghost use Rattle.format_traits.specs.Meanings.{Meaning};
+ghost use Rattle.outside_io.specs.Files.{IsFileName};
 ghost use Rattle.program_shell.specs.StepOutcomes.{RunsPlan, RunsPurePlan};
 ghost use Rattle.std.specs.Prelude.{◌≡◌, ◌<◌, IsSome, Some, length, map, slice_get, string_bytes};
 
 use crate::design_output::write_design;
 use crate::edit_refusals::edit_refusal;
+use crate::thumbnail_output::write_pictured;
 use command_words::FileNames;
-use edited_designs::edit_by_arguments;
+use design_model::Design;
+use edited_designs::{draws_thumbnails, edit_by_arguments};
 use format_traits::{Format, Loaded};
 use outside_io::Store;
 use program_inputs::{format_at, load_at};
@@ -60,7 +64,27 @@ fn edit_loaded<'a>(
 {
     let Loaded { design, ended: _ } = loaded;
     match edit_by_arguments(alloc, design, edits) {
-        Ok(design) => write_design(alloc, names.output, target, &design),
+        Ok(design) => write_edited(alloc, names.output, edits, target, &design),
         Err(bad) => Err(edit_refusal(alloc, names.input, bad)),
     }
+}
+
+/// Makes the file of an edited design, with its thumbnails where an edit draws them.
+fn write_edited<'a>(
+    alloc: Global,
+    name: &'a str,
+    edits: &[String],
+    target: &Box<dyn Format>,
+    design: &Design,
+) -> Made<'a>
+    requires name { IsFileName name.now }
+    requires edits { IsSome (parsed_changes (map (λ word. string_bytes word) edits.now)) }
+    ensures { RunsPurePlan (written_by
+        (draws_thumbnails (changes_of (map (λ word. string_bytes word) edits.now)))
+        name.now (meaning target.now) design.now) result }
+{
+    if draws_thumbnails(edits) {
+        return write_pictured(alloc, name, target, design);
+    }
+    write_design(alloc, name, target, design)
 }

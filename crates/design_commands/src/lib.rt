@@ -18,6 +18,7 @@ mod place_texts;
 mod requests;
 mod running;
 mod thread_texts;
+mod thumbnail_output;
 mod usage;
 
 pub use design_run::run_design;

@@ -1,8 +1,8 @@
 -- Worked values of edits of a design, and of the arguments for them.
-use Rattle.std.proofs.Common.{◌≡◌, ℕ, pos, negsuc, List, [], ◌∷◌, Some, None, Err, codes, refl}
+use Rattle.std.proofs.Common.{◌≡◌, ℕ, pos, negsuc, List, [], ◌∷◌, Some, None, Ok, Err, true, false, codes, refl}
 use Rattle.design_edits.specs.declared.motion.Motion.TheVariants as motion
 use Rattle.design_model.specs.Designs.{empty_design}
-use Rattle.edited_designs.specs.DesignChanges.{bared, beaned, carried, centred, cut, merged, moved, named, needled, scaled, threaded, tied}
+use Rattle.edited_designs.specs.DesignChanges.{bared, beaned, carried, centred, cut, draws_thumbnails, merged, moved, named, needled, pictured, scaled, threaded, tied}
 use Rattle.edited_designs.specs.EditMistakes.{edit_mistake}
 use Rattle.edited_designs.specs.declared.edit_keys.EditKey.TheVariants as key
 use Rattle.edited_designs.specs.declared.edit_mistakes.EditMistake.TheVariants as mistake
@@ -17,8 +17,8 @@ refused word = parsed_change word ≡ None
 -- edits without a value
 pub known_plain : (parsed_change (codes "tie") ≡ Some (tied 7)) × (parsed_change (codes "bare") ≡ Some bared)
     × (parsed_change (codes "centre") ≡ Some centred) × (parsed_change (codes "drop-empty") ≡ Some needled)
-    × refused (codes "center")
-known_plain = (refl, refl, refl, refl, refl)
+    × (parsed_change (codes "thumbnails") ≡ Some pictured) × refused (codes "center")
+known_plain = (refl, refl, refl, refl, refl, refl)
 
 -- each key with its least number, and one below
 pub known_least : (parsed_change (codes "tie=2") ≡ Some (tied 2)) × refused (codes "tie=1")
@@ -50,6 +50,11 @@ known_others = (refl, refl, refl, refl, refl, refl, refl)
 pub known_order : edited_in_order 1 (named (codes "a") ∷ threaded 2 5 ∷ bared ∷ []) empty_design
     ≡ Err (record { number = 2; fault = fault.NoPlace 2 1 })
 known_order = refl
+
+-- thumbnails are drawn wherever the edit stands, which leaves the design
+pub known_thumbnails : (draws_thumbnails (bared ∷ pictured ∷ centred ∷ []) ≡ true) × (draws_thumbnails (bared ∷ centred ∷ []) ≡ false)
+    × (edited_in_order 1 (pictured ∷ []) empty_design ≡ Ok empty_design)
+known_thumbnails = (refl, refl, refl)
 
 -- what is said of mistaken edits
 pub known_mistakes : (edit_mistake (codes "tie=99") ≡ mistake.Range key.Tie) × (edit_mistake (codes "bean=x") ≡ mistake.Range key.Bean)

@@ -1,10 +1,12 @@
 -- Lists of edits.
-use Rattle.std.proofs.Common.{◌≡◌, ℕ, List, [], ◌∷◌, ◌++◌, Option, Some, None, IsSome, map, refl, sym, ap, subst, ◌∙◌, append_assoc}
+use Rattle.std.proofs.Common.{◌≡◌, ℕ, List, [], ◌∷◌, ◌++◌, Option, Some, None, IsSome, false, true, map, refl, sym, ap, subst, ◌∙◌, append_assoc}
 use Rattle.std.specs.Prelude.{option_map}
 use Rattle.std.proofs.lemmas.List.{map-append}
 use Rattle.command_words.proofs.CallerLemmas.{later_parsed}
+use Rattle.edited_designs.specs.DesignChanges.{draws_thumbnails, is_pictured}
+use Rattle.edited_designs.specs.EditArguments.{changes_of}
 use Rattle.edited_designs.specs.EditMistakes.{first_mistaken}
-use Rattle.std.specs.Prelude.{is_some, if◌then◌else◌}
+use Rattle.std.specs.Prelude.{Bool, ◌||◌, is_some, unwrap_or, if◌then◌else◌}
 use Rattle.edited_designs.proofs.Names.{DesignChange, DesignEdit, design_change, parsed_change, parsed_changes, with_first_edit}
 
 -- all edits, by those that are parsed and the arguments that are left
@@ -53,3 +55,20 @@ none_mistaken (word ∷ words) none = by_first (parsed_change word) none (none_m
         with_first : (more : Option (List DesignChange)) → IsSome more → IsSome (with_first_edit (Some change) more)
         with_first None some = some
         with_first (Some edits) some = some
+
+-- whether thumbnails are drawn, by the first edit and the others
+pub next_drawn : (edit : DesignEdit) (word : List ℕ) (left rest : List (List ℕ)) → left ≡ word ∷ rest
+    → parsed_change word ≡ Some (design_change edit) → IsSome (parsed_changes left)
+    → IsSome (parsed_changes rest) × (draws_thumbnails (changes_of left) ≡ (is_pictured (design_change edit) || draws_thumbnails (changes_of rest)))
+next_drawn edit word left rest begins is some =
+    let some_first : IsSome (parsed_changes (word ∷ rest)) = subst (λ words. IsSome (parsed_changes words)) begins some in (
+      later_parsed (parsed_change word) (parsed_changes rest) some_first,
+      ap (λ words. draws_thumbnails (changes_of words)) begins ∙ ap (λ first. draws_thumbnails (unwrap_or (with_first_edit first (parsed_changes rest)) [])) is
+          ∙ by_later (parsed_changes rest) (later_parsed (parsed_change word) (parsed_changes rest) some_first),
+    )
+  where
+    by_later : (later : Option (List DesignChange)) → IsSome later
+        → draws_thumbnails (unwrap_or (with_first_edit (Some (design_change edit)) later) [])
+        ≡ (is_pictured (design_change edit) || draws_thumbnails (unwrap_or later []))
+    by_later None some = let no : false ≡ true = some in cc
+    by_later (Some later) some = refl

@@ -1,6 +1,7 @@
 -- The edits of a design, and the bounds of their numbers. Lengths are in whole tenths of a
 -- millimetre.
-use Rattle.std.specs.Prelude.{ℕ, ◌≤◌, List, length}
+use Rattle.std.specs.Prelude.{ℕ, ◌≤◌, Bool, true, false, List, length}
+use Rattle.std.specs.List.{list_any}
 use Rattle.command_words.specs.Edits.{IsMotionInBounds}
 use Rattle.design_edits.specs.declared.motion.Motion.{Motion}
 use Rattle.design_model.specs.declared.design.TheConstants.{MAX_LABEL}
@@ -13,8 +14,8 @@ use Rattle.sewing_edits.specs.declared.tie_points.TheConstants.{MIN_TIE, MAX_TIE
 -- An edit of a design. `moved`: by a motion. `threaded`: another thread for a block, numbered from
 -- 1. `tied`, `bared`: ties at the ends of threads, by a reach, and none. `centred`. `cut`: long
 -- floats become trims. `carried`: short trims become floats. `merged`: near needles go. `beaned`:
--- each stitch there and back. `scaled`: by hundredths. `needled`: without empty blocks. `named`: a
--- label.
+-- each stitch there and back. `scaled`: by hundredths. `needled`: without empty blocks. `pictured`:
+-- the same design, whose file has its thumbnails. `named`: a label.
 pub data DesignChange : Type 0 where
   moved : Motion → DesignChange
   threaded : (place number : ℕ) → DesignChange
@@ -27,6 +28,7 @@ pub data DesignChange : Type 0 where
   beaned : (times : ℕ) → DesignChange
   scaled : (percent : ℕ) → DesignChange
   needled : DesignChange
+  pictured : DesignChange
   named : (label : List ℕ) → DesignChange
 
 -- The change that an edit is.
@@ -42,6 +44,7 @@ design_change (edit.Merge limit) = merged limit
 design_change (edit.Bean times) = beaned times
 design_change (edit.Scale percent) = scaled percent
 design_change edit.DropEmpty = needled
+design_change edit.Thumbnails = pictured
 design_change (edit.Name label) = named label.now
 
 -- An edit whose numbers are within their bounds.
@@ -57,4 +60,14 @@ IsDesignEdit (edit.Merge limit) = limit ≤ MAX_REACH
 IsDesignEdit (edit.Bean times) = Unit {0}
 IsDesignEdit (edit.Scale percent) = percent ≤ MAX_SCALE
 IsDesignEdit edit.DropEmpty = Unit {0}
+IsDesignEdit edit.Thumbnails = Unit {0}
 IsDesignEdit (edit.Name label) = length label.now ≤ MAX_LABEL
+
+-- An edit draws thumbnails.
+abbrev pub is_pictured : DesignChange → Bool
+is_pictured pictured = true
+is_pictured other = false
+
+-- One of some edits draws thumbnails.
+abbrev pub draws_thumbnails : List DesignChange → Bool
+draws_thumbnails changes = list_any is_pictured changes

@@ -1,6 +1,6 @@
 -- The edits of a design that arguments represent: `shift=DX,DY`, `turn=Q`, `mirror=x`, `mirror=y`
 -- and `thread=P,T`, `tie`, `tie=N`, `bare`, `centre`, `cut=N`, `float=N`, `merge=N`, `bean=K`,
--- `scale=P`, `drop-empty` and `name=W`.
+-- `scale=P`, `drop-empty`, `thumbnails` and `name=W`.
 use Rattle.std.specs.Prelude.{ℕ, ◌&&◌, Bool, List, [], Option, Some, None, bytes_eq, codes, length, nat_le, option_map, unwrap_or, if◌then◌else◌}
 use Rattle.std.specs.List.{list_all}
 use Rattle.command_words.specs.Arguments.{all_parsed, equals_sign, natural_within, parsed_edit}
@@ -9,7 +9,7 @@ use Rattle.design_model.specs.declared.design.TheConstants.{MAX_LABEL}
 use Rattle.design_model.specs.WholeNumbers.{parsed_whole}
 use Rattle.edited_designs.specs.declared.edit_keys.EditKey.{EditKey}
 use Rattle.edited_designs.specs.declared.edit_keys.TheConstants.{DEFAULT_TIE}
-use Rattle.edited_designs.specs.DesignChanges.{DesignChange, bared, centred, moved, named, needled, threaded, tied}
+use Rattle.edited_designs.specs.DesignChanges.{DesignChange, bared, centred, moved, named, needled, pictured, threaded, tied}
 use Rattle.edited_designs.specs.EditKeys.{change_by, least_of, most_of, named_key}
 use Rattle.text_parts.specs.Parts.{split_at_byte}
 
@@ -20,7 +20,8 @@ plain_change word =
     else (if bytes_eq word (codes "bare") then Some bared
     else (if bytes_eq word (codes "centre") then Some centred
     else (if bytes_eq word (codes "drop-empty") then Some needled
-    else None)))
+    else (if bytes_eq word (codes "thumbnails") then Some pictured
+    else None))))
 
 -- The test whether a byte can be shown in a label.
 abbrev pub is_label_byte : ℕ → Bool

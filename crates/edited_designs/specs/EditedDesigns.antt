@@ -11,7 +11,7 @@ use Rattle.design_model.specs.Designs.{DesignValue, with_label}
 use Rattle.design_rewrites.specs.Rewrites.{design_with_acts}
 use Rattle.edited_designs.specs.declared.design_fault.DesignFault.{DesignFault}
 use Rattle.edited_designs.specs.declared.design_fault.DesignFault.TheVariants as fault
-use Rattle.edited_designs.specs.DesignChanges.{DesignChange, beaned, bared, carried, centred, cut, merged, moved, named, needled, scaled, threaded, tied}
+use Rattle.edited_designs.specs.DesignChanges.{DesignChange, beaned, bared, carried, centred, cut, merged, moved, named, needled, pictured, scaled, threaded, tied}
 use Rattle.format_traits.specs.LabelFields.{label_in}
 use Rattle.sewing_edits.specs.Beans.{beaned_acts}
 use Rattle.sewing_edits.specs.CarriedTrims.{carried_acts}
@@ -74,4 +74,5 @@ edited_design (merged limit) d = given_acts d (merged_acts limit (bare_acts_of d
 edited_design (beaned times) d = given_acts d (beaned_acts times (bare_acts_of d))
 edited_design (scaled percent) d = mapped (with_mapped_points (scale_point percent) d)
 edited_design needled d = given_acts (with_needled_threads d) (needled_acts (bare_acts_of d))
+edited_design pictured d = Ok d
 edited_design (named label) d = Ok (with_label d (label_in label))

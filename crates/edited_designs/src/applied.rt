@@ -43,6 +43,7 @@ pub fn edit_design(alloc: Global, design: Design, edit: DesignEdit<'_>) -> Edite
         DesignEdit::Bean(times) => of_rewrite(bean(alloc, &design, times)),
         DesignEdit::Scale(percent) => of_scale(scale(alloc, &design, percent)),
         DesignEdit::DropEmpty => of_rewrite(drop_empty(alloc, &design)),
+        DesignEdit::Thumbnails => Ok(design),
         DesignEdit::Name(label) => Ok(named(design, label)),
     }
 }

@@ -25,6 +25,8 @@ pub enum DesignEdit<'a> {
     Scale(u32),
     /// Leave out the blocks that have no needle.
     DropEmpty,
+    /// Draw thumbnails in the file of the design, which stays.
+    Thumbnails,
     /// Set the label, of at most 16 bytes.
     Name(&'a [u8]),
 }

@@ -1,8 +1,8 @@
 ghost use Rattle.command_words.specs.Arguments.{natural_within};
 ghost use Rattle.command_words.specs.Edits.{IsEditInBounds, change_of_edit};
 ghost use Rattle.design_model.specs.WholeNumbers.{parsed_whole};
-ghost use Rattle.edited_designs.specs.DesignChanges.{IsDesignEdit, design_change};
-ghost use Rattle.edited_designs.specs.EditArguments.{is_label_byte, keyed_change, known_change, named_if_label, parsed_change, parsed_changes, plain_change};
+ghost use Rattle.edited_designs.specs.DesignChanges.{IsDesignEdit, design_change, draws_thumbnails, is_pictured};
+ghost use Rattle.edited_designs.specs.EditArguments.{changes_of, is_label_byte, keyed_change, known_change, named_if_label, parsed_change, parsed_changes, plain_change};
 ghost use Rattle.edited_designs.specs.EditKeys.{change_by, least_of, most_of};
 ghost use Rattle.std.specs.List.{list_all};
 ghost use Rattle.std.specs.Prelude.{◌≡◌, All, IfOk, IfSome, IsSome, None, Some, is_some, map, option_map, string_bytes};
@@ -37,6 +37,7 @@ fn parse_plain(word: &[u8]) -> Option<DesignEdit<'static>>
         word if word == b"bare".as_slice() => Some(DesignEdit::Bare),
         word if word == b"centre".as_slice() => Some(DesignEdit::Centre),
         word if word == b"drop-empty".as_slice() => Some(DesignEdit::DropEmpty),
+        word if word == b"thumbnails".as_slice() => Some(DesignEdit::Thumbnails),
         _ => None,
     }
 }
@@ -126,5 +127,27 @@ fn parsed(word: &[u8]) -> DesignEdit<'_>
     match parse_design_edit(word) {
         Some(edit) => edit,
         None => unreachable!(),
+    }
+}
+
+/// Returns whether one of the arguments, each of which is an edit of a design, draws thumbnails.
+pub fn draws_thumbnails(words: &[String]) -> bool
+    requires { IsSome (parsed_changes (map (λ word. string_bytes word) words.now)) }
+    ensures { result ≡ draws_thumbnails (changes_of (map (λ word. string_bytes word) words.now)) }
+{
+    for word in words {
+        if is_pictured(parsed(word.as_bytes())) {
+            return true;
+        }
+    }
+    false
+}
+
+fn is_pictured(edit: DesignEdit<'_>) -> bool
+    ensures { result ≡ is_pictured (design_change edit.entry) }
+{
+    match edit {
+        DesignEdit::Thumbnails => true,
+        _ => false,
     }
 }

@@ -12,7 +12,9 @@ mod in_order;
 pub use applied::edit_design;
 pub use design_edit::DesignEdit;
 pub use design_fault::{BadDesignEdit, DesignFault};
-pub use edit_arguments::{are_design_edits, parse_design_edit, parse_design_edits};
+pub use edit_arguments::{
+    are_design_edits, draws_thumbnails, parse_design_edit, parse_design_edits,
+};
 pub use edit_keys::{DEFAULT_TIE, EditKey, MAX_MERGE, edit_key};
 pub use edit_mistakes::{EditMistake, edit_mistake, first_mistaken_edit};
 pub use in_order::{edit_by_arguments, edit_in_order};

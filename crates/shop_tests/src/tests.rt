@@ -5,4 +5,5 @@ mod place_runs;
 mod shop_files;
 mod single_edits;
 mod table_runs;
+mod thumbnail_runs;
 mod usage_runs;

@@ -123,6 +123,8 @@ pub const RUNS: &[Run] = &[
         "stitch_design: shop.lst: edit 2: no block 4, there are 3\n"),
     refused!("edit shop.lst out.dst scale=900" =>
         "stitch_design: out.dst: command 2: stitch longer than 121\n"),
+    refused!("edit shop.lst out.dst thumbnails" =>
+        "stitch_design: out.dst: no thumbnails in this format\n"),
     refused!("edit bad.lst out.lst tie" =>
         "stitch_design: bad.lst: byte 31: control code not known\n"),
     misused!("edit" =>
@@ -143,6 +145,8 @@ pub const RUNS: &[Run] = &[
         "stitch_design: out.rw: no format has this ending\n"),
     misused!("edit shop.lst out.lst tie strt=1 tie=1" =>
         "stitch_design: strt=1: not an edit\n"),
+    misused!("edit shop.lst out.pec thumbnails=1" =>
+        "stitch_design: thumbnails=1: not an edit\n"),
     misused!("edit shop.lst out.lst tie=1" =>
         "stitch_design: tie=1: from 2 to 20\n"),
     misused!("edit shop.lst out.lst cut=60001" =>

@@ -80,7 +80,7 @@ fn with_usage(alloc: Global, line: &str, status: u8) -> Result<String, Fail> {
 }
 
 /// Returns a store with the shop's files.
-fn stocked(alloc: Global) -> Result<MemStore, Fail> {
+pub fn stocked(alloc: Global) -> Result<MemStore, Fail> {
     let mut store = MemStore::new(alloc);
     let old = old_pec(alloc, 525)?;
     store.put_file("old.pec", old.as_slice())?;

@@ -1,0 +1,9 @@
+mod LitLemmas
+mod SketchLemmas
+mod ThumbnailFacts
+mod TailLemmas
+mod EndLemmas
+mod LengthLemmas
+mod HeaderLemmas
+mod RedrawingLemmas
+mod RedrawingFacts
