@@ -5,8 +5,9 @@ use Rattle.design_model.specs.declared.command.Command.TheVariants.{Stitch, Jump
 use Rattle.design_model.specs.declared.command.Command.TheVariants as command
 use Rattle.design_model.specs.declared.point.Point.{Point}
 use Rattle.design_model.specs.Designs.{DesignValue}
+use Rattle.pec_codec.specs.declared.block.TheConstants.{THUMBNAIL_LENGTH}
 use Rattle.thumbnails.specs.declared.lit_points.ThumbPoint.{ThumbPoint}
-use Rattle.thumbnails.specs.declared.packing.TheConstants.{ROWS, THUMBNAIL_BYTES}
+use Rattle.thumbnails.specs.declared.packing.TheConstants.{ROWS}
 use Rattle.thumbnails.specs.declared.scaling.TheConstants.{ACROSS, BORDER, DOWN}
 use Rattle.thumbnails.specs.LitPoints.{between, line_point, no_points, with_thumb_line, with_thumb_point}
 use Rattle.thumbnails.specs.Packings.{byte_at, thumb_bytes}
@@ -20,7 +21,7 @@ abbrev at : ℕ → ℕ → ThumbPoint
 at column row = record { column = column; row = row }
 
 -- 40 by 30 points within 48 by 38, of 6 bytes in each of 38 rows.
-pub known_constants : (ACROSS ≡ 39) × (DOWN ≡ 29) × (BORDER ≡ 4) × (ROWS ≡ 38) × (THUMBNAIL_BYTES ≡ 6 * 38)
+pub known_constants : (ACROSS ≡ 39) × (DOWN ≡ 29) × (BORDER ≡ 4) × (ROWS ≡ 38) × (THUMBNAIL_LENGTH ≡ 6 * 38)
 known_constants = (refl, refl, refl, refl, refl)
 
 -- A design of 78 by 29 from (-9, 20) takes all 39 columns, at two tenths a point, and 14 rows: 4 and half of 15 are above.
@@ -76,17 +77,17 @@ blank rows = replicate (6 * rows) 0
 abbrev single_row : List ℕ
 single_row = 0 ∷ 0 ∷ 0 ∷ 1 ∷ 0 ∷ 0 ∷ []
 
-pub known_whole : take THUMBNAIL_BYTES (drawn_thumbnails_of design)
+pub known_whole : take THUMBNAIL_LENGTH (drawn_thumbnails_of design)
     ≡ blank 4 ++ (full_row ++ (blank 9 ++ (single_row ++ (blank 18 ++ (end_row ++ blank 4)))))
 unfolding thumb_bytes
 known_whole = refl
 
-pub known_blocks : drop THUMBNAIL_BYTES (drawn_thumbnails_of design) ≡ (blank 4 ++ (full_row ++ blank 33))
+pub known_blocks : drop THUMBNAIL_LENGTH (drawn_thumbnails_of design) ≡ (blank 4 ++ (full_row ++ blank 33))
     ++ (blank 14 ++ (single_row ++ (blank 18 ++ (end_row ++ blank 4))))
 unfolding thumb_bytes
 known_blocks = refl
 
 -- A design without commands has two thumbnails, both blank.
-pub known_blank : drawn_thumbnails_of (record { label = []; threads = []; commands = [] }) ≡ replicate (2 * THUMBNAIL_BYTES) 0
+pub known_blank : drawn_thumbnails_of (record { label = []; threads = []; commands = [] }) ≡ replicate (2 * THUMBNAIL_LENGTH) 0
 unfolding thumb_bytes
 known_blank = refl

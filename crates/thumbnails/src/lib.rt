@@ -8,7 +8,7 @@ mod scaling;
 mod sketch;
 mod theorems;
 
-pub use packing::{ROWS, THUMBNAIL_BYTES};
+pub use packing::ROWS;
 pub use redrawing::with_thumbnails;
 pub use sketch::drawn_thumbnails;
 pub use theorems::{tails_are_not_read, thumbnails_are_not_read};

@@ -10,9 +10,6 @@ use std::collections::HashSet;
 /// The rows of a thumbnail.
 pub const ROWS: u32 = 38;
 
-/// The bytes of a thumbnail.
-pub const THUMBNAIL_BYTES: usize = 228;
-
 /// Appends the bytes of a thumbnail with these points.
 #[tactic(auto, unfolding(crate::specs::Packings::thumb_bytes))]
 pub(crate) fn put_thumbnail(out: &mut Bytes, points: &HashSet<ThumbPoint>) -> Result<(), Memory>
