@@ -17,7 +17,7 @@ use Rattle.program_shell.specs.declared.failure.Failure.{Failure}
 use Rattle.program_shell.specs.declared.product.Product.{Product}
 use Rattle.program_shell.specs.declared.status.Status.{Status}
 use Rattle.design_commands.specs.Commands.{DesignOrder, comparing, design_outputs_of, design_plan_of, editing, listing, looking, passing, stitch_design_after, telling}
-use Rattle.design_commands.specs.CompareOrders.{CompareOrder, compare_first, compare_second, compared, compared_acts, compared_threads}
+use Rattle.design_commands.specs.CompareOrders.{compare_first, compare_second, compared_acts, compared_threads}
 use Rattle.program_texts.specs.MistakenWords.{MistakenWord}
 use Rattle.program_texts.specs.CompanionUsage.{usage_with}
 use Rattle.design_commands.specs.EditOrders.{DesignEditOrder, design_edit_read, edited_design_plan, pictured_by, written_by}

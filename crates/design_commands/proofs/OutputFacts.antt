@@ -1,5 +1,5 @@
 -- Which formats have thumbnails, and a design that none of them writes.
-use Rattle.std.proofs.Common.{◌≡◌, ◌||◌, ℕ, Bool, List, Ok, Err, true, false, codes, ap}
+use Rattle.std.proofs.Common.{◌≡◌, ◌||◌, ℕ, List, Ok, Err, true, false, codes, ap}
 use Rattle.std.specs.Prelude.{bytes_eq}
 use Rattle.design_model.specs.Designs.{DesignValue}
 use Rattle.format_traits.specs.declared.fault.WriteFault.TheVariants as fault

@@ -1,5 +1,5 @@
 -- Worked requests, and mistakes of arguments: the first that isn't understood is named, with what is wrong with it.
-use Rattle.std.proofs.Common.{◌≡◌, ◌∷◌, [], ℕ, List, Some, None, Ok, Err, true, false, codes, refl}
+use Rattle.std.proofs.Common.{◌≡◌, ◌∷◌, [], ℕ, List, Some, None, Ok, true, false, codes, refl}
 use Rattle.program_texts.specs.MistakenWords.{mistaken}
 use Rattle.edited_designs.specs.DesignChanges.{bared, needled, pictured, tied}
 use Rattle.design_commands.specs.Commands.{design_mistake, design_order, telling}

@@ -1,6 +1,6 @@
 -- What the arguments of stitch_design request, a command and its arguments; or the first that
 -- isn't understood.
-use Rattle.std.specs.Prelude.{ℕ, Bool, true, false, List, [], ◌∷◌, Option, Some, None, IsSome, Result, Ok, Err, bytes_eq, codes, map, string_bytes, if◌then◌else◌}
+use Rattle.std.specs.Prelude.{ℕ, true, false, List, [], ◌∷◌, Option, None, IsSome, Result, Ok, Err, bytes_eq, codes, map, string_bytes, if◌then◌else◌}
 use Rattle.command_words.specs.declared.names.FileNames.{FileNames}
 use Rattle.command_words.specs.ValidNames.{AreFileNames}
 use Rattle.program_texts.specs.MistakenWords.{MistakenWord, then_with, with_some_mistake}

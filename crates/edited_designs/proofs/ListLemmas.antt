@@ -6,7 +6,7 @@ use Rattle.command_words.proofs.CallerLemmas.{later_parsed}
 use Rattle.edited_designs.specs.DesignChanges.{draws_thumbnails, is_pictured}
 use Rattle.edited_designs.specs.EditArguments.{changes_of}
 use Rattle.edited_designs.specs.EditMistakes.{first_mistaken}
-use Rattle.std.specs.Prelude.{Bool, ◌||◌, is_some, unwrap_or, if◌then◌else◌}
+use Rattle.std.specs.Prelude.{◌||◌, is_some, unwrap_or, if◌then◌else◌}
 use Rattle.edited_designs.proofs.Names.{DesignChange, DesignEdit, design_change, parsed_change, parsed_changes, with_first_edit}
 
 -- all edits, by those that are parsed and the arguments that are left

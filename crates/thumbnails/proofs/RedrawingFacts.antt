@@ -1,5 +1,5 @@
 -- Worked values of files with thumbnails, and what each field of a redrawn file excludes.
-use Rattle.std.proofs.Common.{◌≡◌, ℕ, List, [], ◌∷◌, ◌++◌, Ok, Err, length, replicate, take, refl, ap}
+use Rattle.std.proofs.Common.{◌≡◌, ℕ, List, [], ◌∷◌, Err, length, replicate, take, refl, ap}
 use Rattle.design_model.specs.Designs.{DesignValue, empty_design}
 use Rattle.format_traits.specs.Meanings.{Meaning}
 use Rattle.format_traits.specs.declared.fault.ReadFault.TheVariants as fault

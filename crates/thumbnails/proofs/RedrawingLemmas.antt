@@ -1,5 +1,5 @@
 -- A written file with thumbnails reads as without them.
-use Rattle.std.proofs.Common.{◌≡◌, ℕ, ◌+◌, ◌-◌, ◌*◌, ◌≤◌, nat_lt, true, false, List, [], ◌∷◌, ◌++◌, length, drop, take, replicate, Option, Some, None, Ok, IfOk, IsOkAnd, refl, ap, sym, ◌∙◌, subst, arith, length-append}
+use Rattle.std.proofs.Common.{◌≡◌, ℕ, ◌+◌, ◌-◌, ◌*◌, ◌≤◌, nat_lt, true, false, List, ◌++◌, length, drop, take, replicate, Option, Some, None, Ok, IfOk, IsOkAnd, refl, ap, sym, ◌∙◌, subst, arith, length-append}
 use Rattle.std.proofs.lemmas.Bool.{le-ltb}
 use Rattle.std.proofs.lemmas.List.{append_assoc, drop_at, length-replicate, take_at}
 use Rattle.design_model.specs.Acts.{acts_of}
@@ -13,7 +13,7 @@ use Rattle.format_traits.specs.Meanings.{Meaning}
 use Rattle.format_traits.specs.Refusals.{first_refusal, stops_of, unless_refused}
 use Rattle.pec_codec.specs.declared.block.TheConstants.{HEADER_LENGTH, MAX_STOPS}
 use Rattle.pec_codec.specs.Header.{pec_header_of, threads_of}
-use Rattle.pec_codec.specs.Reading.{pec_block_layout, pec_block_moves}
+use Rattle.pec_codec.specs.Reading.{pec_block_layout}
 use Rattle.pec_codec.specs.Records.{pec_records}
 use Rattle.pec_codec.specs.Writing.{pec_block_of, pec_body_of, pec_write_limits, thumbnail_distance, thumbnails_of}
 use Rattle.pes_codec.specs.declared.file_kind.FileKind.{FileKind}
@@ -27,7 +27,7 @@ use Rattle.record_formats.specs.Readings.{loaded_with}
 use Rattle.record_formats.specs.Records.{Records, file_commands, moves_of_records}
 use Rattle.thumbnails.specs.Redrawings.{IsRedrawn, MayBeRedrawn, ThumbnailsAreNotRead, before_thumbnails, with_thumbnails_of}
 use Rattle.thumbnails.specs.Sketches.{drawn_thumbnails_of}
-use Rattle.thumbnails.specs.Tails.{TailsAreNotRead, has_end}
+use Rattle.thumbnails.specs.Tails.{has_end}
 use Rattle.thumbnails.proofs.EndLemmas.{end_there, read_to_end}
 use Rattle.thumbnails.proofs.HeaderLemmas.{length-header, reads_header}
 use Rattle.thumbnails.proofs.LengthLemmas.{length-drawn}

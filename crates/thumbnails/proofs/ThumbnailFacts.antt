@@ -1,6 +1,6 @@
 -- Worked thumbnails, by hand. Lengths are in tenths of a millimetre.
-use Rattle.std.proofs.Common.{◌≡◌, ℕ, ℤ, Bool, pos, negsuc, true, false, List, [], ◌∷◌, ◌++◌, length, map, None, Some, refl}
-use Rattle.std.specs.Prelude.{◌*◌, codes, drop, replicate, take}
+use Rattle.std.proofs.Common.{◌≡◌, ℕ, ℤ, pos, negsuc, true, false, List, [], ◌∷◌, ◌++◌, map, None, Some, refl}
+use Rattle.std.specs.Prelude.{◌*◌, drop, replicate, take}
 use Rattle.design_model.specs.declared.command.Command.TheVariants.{Stitch, Jump}
 use Rattle.design_model.specs.declared.command.Command.TheVariants as command
 use Rattle.design_model.specs.declared.point.Point.{Point}
@@ -9,7 +9,7 @@ use Rattle.pec_codec.specs.declared.block.TheConstants.{THUMBNAIL_LENGTH}
 use Rattle.thumbnails.specs.declared.lit_points.ThumbPoint.{ThumbPoint}
 use Rattle.thumbnails.specs.declared.packing.TheConstants.{ROWS}
 use Rattle.thumbnails.specs.declared.scaling.TheConstants.{ACROSS, BORDER, DOWN}
-use Rattle.thumbnails.specs.LitPoints.{between, line_point, no_points, with_thumb_line, with_thumb_point}
+use Rattle.thumbnails.specs.LitPoints.{line_point, no_points, with_thumb_line, with_thumb_point}
 use Rattle.thumbnails.specs.Packings.{byte_at, thumb_bytes}
 use Rattle.thumbnails.specs.Scales.{thumb_point, view_of}
 use Rattle.thumbnails.specs.Sketches.{drawn_thumbnails_of}

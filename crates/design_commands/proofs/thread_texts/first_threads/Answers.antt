@@ -1,4 +1,4 @@
-use Rattle.std.proofs.Common.{◌≡◌, ◌∙◌, ℕ, suc, ◌+◌, ◌-◌, ◌++◌, List, append-nil, append_assoc, ap, sym, arith}
+use Rattle.std.proofs.Common.{◌≡◌, ◌∙◌, ℕ, suc, ◌+◌, ◌-◌, ◌++◌, append-nil, append_assoc, ap, sym, arith}
 use Rattle.design_commands.specs.ThreadTexts.{palette_line, palette_lines}
 use Rattle.design_commands.proofs.thread_texts.first_threads.Goals as goal
 

@@ -1,4 +1,4 @@
-use Rattle.std.proofs.Common.{◌≡◌, ◌+◌, ◌∷◌, List, drop, map, rules, string_bytes, sym, ap, ℕ, ◌∙◌}
+use Rattle.std.proofs.Common.{◌+◌, ◌∷◌, List, drop, map, rules, string_bytes, sym, ap, ℕ, ◌∙◌}
 use Rattle.std.proofs.lemmas.List.{at_drop_more}
 use Rattle.edited_designs.proofs.ListLemmas.{next_drawn}
 use Rattle.edited_designs.proofs.edit_arguments.draws_thumbnails.Goals as goal

@@ -1,6 +1,6 @@
 use Rattle.std.proofs.Common.{◌≡◌, ◌≤◌, ◌+◌, ◌-◌}
 use Rattle.std.specs.HashSet.{contains}
-use Rattle.thumbnails.specs.LitPoints.{is_same_thumb_point, line_length, with_line_from, with_thumb_line}
+use Rattle.thumbnails.specs.LitPoints.{is_same_thumb_point, with_line_from, with_thumb_line}
 use Rattle.thumbnails.proofs.lit_points.light_line.Given as goal
 
 -- the points so far and those of the steps that are left are all of them
