@@ -323,9 +323,8 @@ without_return_same (b ∷ c ∷ rest) ends =
 
 -- a line that is written after its comments, and the lines after it
 pub line_put : (out total line text : List ℕ) (c : TextComments) → out ++ lines_with c (line ∷ parts_between 10 text) ≡ total
-    → (out ++ (comments_by c (line_mark line) ++ (line ++ 10 ∷ []))) ++ lines_with (comments_left c (line_mark line))
-    (parts_between 10 text)
-    ≡ total
+    → (out ++ (comments_by c (line_mark line) ++ (line ++ 10 ∷ [])))
+    ++ lines_with (comments_left c (line_mark line)) (parts_between 10 text) ≡ total
 line_put out total line text c is =
     let before : List ℕ = comments_by c (line_mark line) in
     let rest : List ℕ = lines_with (comments_left c (line_mark line)) (parts_between 10 text) in

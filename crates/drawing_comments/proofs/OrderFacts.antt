@@ -3,7 +3,8 @@ use Rattle.std.proofs.Common.{◌≡◌, ℕ, pos, List, [], ◌∷◌, codes, r
 use Rattle.design_model.specs.declared.point.Point.{Point}
 use Rattle.line_sections.specs.Lines.{LineValue}
 use Rattle.line_sections.specs.Sections.{lines_through}
-use Rattle.drawing_comments.specs.OrderedComments.{ordered_comments, section_comments}
+use Rattle.drawing_comments.specs.declared.text_comments.TextComments.{TextComments}
+use Rattle.drawing_comments.specs.OrderedComments.{comments_of_cut, ordered_comments, section_comments}
 
 abbrev at : ℕ → ℕ → Point
 at x y = record { x = pos x; y = pos y }
@@ -17,6 +18,15 @@ cut = lines_through 0 ((at 0 0 ∷ at 2 0 ∷ []) ∷ (at 2 0 ∷ at 5 0 ∷ at 
 
 pub known_cut : section_comments 0 drawn (codes "#a" ∷ codes "#b" ∷ []) cut ≡ codes "#a" ∷ [] ∷ codes "#b" ∷ []
 known_cut = refl
+
+-- comments of a text, with those of its lines
+abbrev with_lines : List (List ℕ) → TextComments
+with_lines lines = record { top = codes "#t"; blocks = codes "#r" ∷ []; lines = lines; last = codes "#e" }
+
+-- the other comments of a text whose lines were cut are kept
+pub known_kept : comments_of_cut (with_lines (codes "#a" ∷ codes "#b" ∷ [])) drawn cut
+    ≡ with_lines (codes "#a" ∷ [] ∷ codes "#b" ∷ [])
+known_kept = refl
 
 -- lines in another order, of which two are the same
 pub known_ordered : ordered_comments

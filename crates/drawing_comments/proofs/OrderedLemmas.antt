@@ -6,7 +6,7 @@ use Rattle.line_sections.specs.Lines.{LineValue}
 use Rattle.drawing_comments.proofs.CommentLemmas.{first_are, left_are, none_are}
 use Rattle.drawing_comments.specs.CommentLaws.{AreComments}
 use Rattle.drawing_comments.specs.CommentedTexts.{first_comment}
-use Rattle.drawing_comments.specs.OrderedComments.{SectionsKeepComments, comment_if, comment_of_same, is_same_line, ahead_after, ordered_comments, past_if, section_comments}
+use Rattle.drawing_comments.specs.OrderedComments.{CutsKeepComments, SectionsKeepComments, comment_if, comment_of_same, is_same_line, ahead_after, ordered_comments, past_if, section_comments}
 
 comment_if_is : (begins : Bool) (comments : List (List ℕ)) → All AreComments comments → AreComments (comment_if begins comments)
 comment_if_is true comments are = first_are comments are
@@ -45,6 +45,14 @@ ordered_are [] before comments are = All-nil AreComments
 ordered_are (line ∷ rest) before comments are =
     All-cons AreComments (comment_of_same line (count_by (is_same_line line) rest) before comments) (ordered_comments before comments rest)
     (comment_of_same_is line (count_by (is_same_line line) rest) before comments are) (ordered_are rest before comments are)
+
+pub cuts_keep_comments : CutsKeepComments
+cuts_keep_comments = λ c lines sections are. record {
+  top = are.top;
+  blocks = are.blocks;
+  lines = section_comments_are sections 0 lines c.lines are.lines;
+  last = are.last;
+}
 
 pub sections_keep_comments : SectionsKeepComments
 sections_keep_comments = λ c lines sections ordered are. record {

@@ -14,8 +14,8 @@ spoken_lines text = filter (λ words. not (is_ignored_line words)) (words_by_lin
 -- Texts whose lines are the same but for comments and empty lines describe the same drawing, and
 -- the same lines as they are drawn.
 abbrev pub SpokenLinesDecide : Type 0
-SpokenLinesDecide = (text other : List ℕ) (d : DrawingValue) → spoken_lines text
-    ≡ spoken_lines other
+SpokenLinesDecide = (text other : List ℕ) (d : DrawingValue)
+    → spoken_lines text ≡ spoken_lines other
     → (drawing_of text ≡ Ok d → drawing_of other ≡ Ok d)
     × (drawing_as_drawn text ≡ Ok d → drawing_as_drawn other ≡ Ok d)
 

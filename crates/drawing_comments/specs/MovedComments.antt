@@ -1,5 +1,6 @@
 -- The comments of lines that were cut or left out.
-use Rattle.std.specs.Prelude.{ℕ, zero, suc, List, [], ◌∷◌, ◌++◌}
+use Rattle.std.specs.Prelude.{ℕ, zero, suc, ◌==◌, Bool, List, [], ◌∷◌, ◌++◌, length}
+use Rattle.std.specs.List.{list_all}
 use Rattle.drawing_comments.specs.declared.text_comments.TextComments.{TextComments}
 use Rattle.drawing_comments.specs.CommentLaws.{AreTextComments}
 
@@ -27,6 +28,14 @@ comments_of_parts c counts = record c { lines = line_comments c.lines counts }
 -- The comments of a text whose lines are others: those of the lines are left out.
 abbrev pub block_comments : TextComments → TextComments
 block_comments c = comments_of_parts c []
+
+-- There is no comment: it is empty.
+abbrev pub is_no_comment : List ℕ → Bool
+is_no_comment comment = length comment == 0
+
+-- No line of a text has a comment.
+abbrev pub has_no_line_comments : TextComments → Bool
+has_no_line_comments c = list_all is_no_comment c.lines
 
 -- The comments of parts are comments.
 abbrev pub PartsKeepComments : Type 0

@@ -37,6 +37,12 @@ section_comments ahead lines comments (section ∷ rest) = comment_if (ahead == 
     ∷ section_comments (ahead_after (ahead == 0) ahead lines section) (past_if (ahead == 0) lines)
     (past_if (ahead == 0) comments) rest
 
+-- Comments of a text whose lines were cut into sections in their order.
+abbrev pub comments_of_cut : TextComments → (lines sections : List LineValue) → TextComments
+comments_of_cut c lines sections = record c {
+  lines = section_comments 0 lines c.lines sections;
+}
+
 -- Two lists have the same points.
 abbrev pub are_same_points : List Point → List Point → Bool
 are_same_points [] [] = true
@@ -71,6 +77,11 @@ abbrev pub comments_of_sections : TextComments → (lines sections ordered : Lis
 comments_of_sections c lines sections ordered = record c {
   lines = ordered_comments sections (section_comments 0 lines c.lines sections) ordered;
 }
+
+-- The comments of sections in their order are comments.
+abbrev pub CutsKeepComments : Type 0
+CutsKeepComments = (c : TextComments) (lines sections : List LineValue) → AreTextComments c
+    → AreTextComments (comments_of_cut c lines sections)
 
 -- The comments of sections are comments.
 abbrev pub SectionsKeepComments : Type 0

@@ -1,5 +1,5 @@
 ghost use Rattle.drawing_comments.specs.CommentLaws.{AreTextComments};
-ghost use Rattle.drawing_comments.specs.MovedComments.{block_comments, comments_of_parts, line_comments, part_comments, uncommented};
+ghost use Rattle.drawing_comments.specs.MovedComments.{block_comments, comments_of_parts, has_no_line_comments as has_uncommented_lines, is_no_comment as is_empty_comment, line_comments, part_comments, uncommented};
 ghost use Rattle.std.specs.Prelude.{◌≡◌, ◌++◌, IfOk, OnOk};
 
 use crate::text_comments::TextComments;
@@ -39,6 +39,20 @@ fn spread(alloc: Global, comments: &TextComments, counts: &[usize]) -> Result<Te
         lines,
         last,
     })
+}
+
+/// Returns whether no line of a text has a comment.
+pub fn has_no_line_comments(comments: &TextComments) -> bool
+    ensures { result ≡ has_uncommented_lines comments.now }
+{
+    let lines = comments.lines.as_slice();
+    lines.iter().all(|comment| is_no_comment(comment))
+}
+
+fn is_no_comment(comment: &Bytes) -> bool
+    ensures { result ≡ is_empty_comment comment.now }
+{
+    comment.is_empty()
 }
 
 /// Returns the comments of a text whose lines are others: those of the lines are left out.

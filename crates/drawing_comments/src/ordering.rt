@@ -1,12 +1,12 @@
 ghost use Rattle.drawing_comments.specs.CommentLaws.{AreTextComments};
 ghost use Rattle.drawing_comments.specs.CommentedTexts.{first_comment};
-ghost use Rattle.drawing_comments.specs.OrderedComments.{are_same_points, comment_if, comment_of_same, comments_of_sections, first_segments, is_same_line, ahead_after, ordered_comments, past_if, section_comments};
+ghost use Rattle.drawing_comments.specs.OrderedComments.{are_same_points, comment_if, comment_of_same, comments_of_sections, first_segments, is_same_line, ahead_after, comments_of_cut, ordered_comments, past_if, section_comments};
 ghost use Rattle.std.specs.List.{count_by};
 ghost use Rattle.std.specs.Prelude.{◌-◌, if◌then◌else◌, ◌≡◌, ◌++◌, ◌∷◌, [], IfOk, OnOk};
 
 use crate::moving::{Comments, all_copied, copied};
 use crate::text_comments::TextComments;
-use crate::theorems::sections_keep_comments;
+use crate::theorems::{cuts_keep_comments, sections_keep_comments};
 use design_model::{Bytes, Memory, Point};
 use line_sections::Line;
 use std::alloc::Global;
@@ -44,6 +44,43 @@ fn ordered_text(
     let blocks = all_copied(alloc, comments.blocks.as_slice())?;
     let cut = of_sections(alloc, comments.lines.as_slice(), lines, sections)?;
     let lines = of_ordered(alloc, cut.as_slice(), sections, ordered)?;
+    let last = copied(alloc, &comments.last)?;
+    Ok(TextComments {
+        top,
+        blocks,
+        lines,
+        last,
+    })
+}
+
+/// Returns the comments of a text whose lines were cut into sections in their order: a comment is before the first section
+/// of its line.
+pub fn cut_comments(
+    alloc: Global,
+    comments: &TextComments,
+    lines: &[Line],
+    sections: &[Line],
+) -> Result<TextComments, Memory>
+    requires { AreTextComments comments.now }
+    ensures value { IfOk result (λ cut. cut ≡ comments_of_cut comments.now lines.now sections.now) }
+    ensures are { IfOk result AreTextComments }
+{
+    cuts_keep_comments();
+    let cut = cut_text(alloc, comments, lines, sections)?;
+    Ok(cut)
+}
+
+fn cut_text(
+    alloc: Global,
+    comments: &TextComments,
+    lines: &[Line],
+    sections: &[Line],
+) -> Result<TextComments, Memory>
+    ensures { IfOk result (λ cut. cut ≡ comments_of_cut comments.now lines.now sections.now) }
+{
+    let top = copied(alloc, &comments.top)?;
+    let blocks = all_copied(alloc, comments.blocks.as_slice())?;
+    let lines = of_sections(alloc, comments.lines.as_slice(), lines, sections)?;
     let last = copied(alloc, &comments.last)?;
     Ok(TextComments {
         top,

@@ -1,6 +1,6 @@
 ghost use Rattle.drawing_comments.specs.CommentLaws.{CommentsKeepLines, FoundAreComments, SpokenLinesDecide};
 ghost use Rattle.drawing_comments.specs.MovedComments.{PartsKeepComments};
-ghost use Rattle.drawing_comments.specs.OrderedComments.{SectionsKeepComments};
+ghost use Rattle.drawing_comments.specs.OrderedComments.{CutsKeepComments, SectionsKeepComments};
 
 /// Theorem: texts whose lines are the same but for comments and empty lines describe the same drawing, and the same lines as
 /// they are drawn.
@@ -21,6 +21,11 @@ pub fn comments_keep_lines()
 /// Theorem: the comments of lines that were cut or left out are comments.
 pub fn parts_keep_comments()
     ensures { PartsKeepComments }
+{}
+
+/// Theorem: the comments of sections in their order are comments.
+pub fn cuts_keep_comments()
+    ensures { CutsKeepComments }
 {}
 
 /// Theorem: the comments of sections in another order are comments.
