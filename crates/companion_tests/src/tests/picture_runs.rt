@@ -6,6 +6,7 @@ use outside_io::{MemSink, MemStore};
 use picture_commands::run;
 use program_shell::Status;
 use std::alloc::Global;
+use std::process::Abort;
 use std::test::Fail;
 use stitch_text::List;
 
@@ -277,12 +278,16 @@ fn each_picture_has_its_parts(rt: HostRuntime) -> Result<(), Fail> {
         let mut out = MemSink::new(rt.alloc(), 100)?;
         let mut err = MemSink::new(rt.alloc(), 1_000)?;
         answer(rt.alloc(), words, &mut store, &mut out, &mut err)?;
-        let picture = store.file("a.svg").unwrap_or(b"");
-        for part in parts {
-            assert!(rt; memmem::find(picture, part).is_some(), "{words:?} {part:?}");
-        }
+        has_parts(&rt, words, store.file("a.svg").unwrap_or(b""), parts);
     }
     Ok(())
+}
+
+/// Tests that each part stands in a picture.
+fn has_parts(rt: &impl Abort, words: &[&str], picture: &[u8], parts: &[&[u8]]) {
+    for part in parts {
+        assert!(rt; memmem::find(picture, part).is_some(), "{words:?} {part:?}");
+    }
 }
 
 /// Returns a store with a design, a drawing with two certificates, a bad file, and room for pictures.
