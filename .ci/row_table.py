@@ -980,10 +980,10 @@ row("comments of a drawing", {"a.rw": "\r\n".join(SAID) + "\r\n"},
         "# top", "redwork 3", "step 25", "# red", "color 1", "# long", "line 0 0 60 0 100 0", "# over", "line 100 0 160 0 160 40",
         "start 160 40", "end 0 0", "# blue", "color 2", " # apart", "line 0 90 40 90", "start 40 90", "end 0 90", "#end")}),
     done("stitch_drawing near c.rw f.rw", "travel 90 to 90 pieces 2\n", {"f.rw": SameAs("b.rw")}),
-    # an edit leaves out the comments of lines
+    # an edit keeps the comments of lines
     done("stitch_drawing edit a.rw g.rw step=20", "lines 4 pieces 2 cost 17\n", {"g.rw": text(
-        "# top", "redwork 2", "step 20", "# red", "color 1", "line 0 0 100 0", "line 60 0 160 0 160 40", "line 0 0 60 0", "# blue",
-        "color 2", "line 0 90 40 90", "#end")}))
+        "# top", "redwork 2", "step 20", "# red", "color 1", "# long", "line 0 0 100 0", "# over", "line 60 0 160 0 160 40", "# again",
+        "line 0 0 60 0", "# blue", "color 2", " # apart", "line 0 90 40 90", "#end")}))
 
 row("what a drawing may have between its words", {
     "a.rw": "\n".join([

@@ -79,13 +79,13 @@ order_sound (nearing order) = parses_sound (order.output ∷ []) order.input tex
     made text (Err kind) = refuses_sound (order.output ∷ []) _
 order_sound (editing order) = parses_sound (order.output ∷ []) order.input text_read (drawing_edit_read order)
     (λ text. kept_sound (order.output ∷ []) order.input text.lines.drawing _
-    (made text.comments (edits_applied 1 order.edits text.lines.drawing)))
+    (made text (edits_applied 1 order.edits text.lines.drawing)))
     (λ fault. refuses_sound (order.output ∷ []) _)
   where
-    made : (c : TextComments) (said : Result DrawingValue BadEdit)
-        → IsSoundPlan (order.output ∷ []) (edited_plan order.input order.output c said)
-    made c (Ok d) = accepts_sound (order.output ∷ []) (IsEdited order.output c d) (λ product is. named product _ is.written.made)
-    made c (Err bad) = refuses_sound (order.output ∷ []) _
+    made : (text : TextRead) (said : Result DrawingValue BadEdit) → IsSoundPlan (order.output ∷ []) (edited_plan order text said)
+    made text (Ok d) = accepts_sound (order.output ∷ []) (IsEdited order.output order.edits text d)
+        (λ product is. named product _ is.written.made)
+    made text (Err bad) = refuses_sound (order.output ∷ []) _
 order_sound (telling text) = accepts_sound [] _ (λ product is. named product _ is)
 
 -- The program is sound.

@@ -3,9 +3,11 @@ mod WholeLemmas
 mod MeetLemmas
 mod SpaceLemmas
 pub mod DrawingEditLemmas
+pub mod OrderEditLemmas
 pub mod RequestLemmas
 mod CommandLemmas
 mod EditFacts
+mod EditCommentFacts
 mod MistakeFacts
 mod ProductFacts
 pub mod VersionOneLemmas

@@ -15,8 +15,8 @@ pub whole_written : (output report : List ℕ) (c : TextComments) (drawn joined 
     → drawing_of (whole_text drawn joined) ≡ Ok joined → drawing_as_drawn (whole_text drawn joined) ≡ Ok drawn
     → product ≡ one_file_product output (commented_text c drawn joined) report → IsWholeProduct output c drawn joined report product
 whole_written output report c drawn joined product keep decide are again lines made =
-    let same : spoken_lines (commented_text c drawn joined) ≡ spoken_lines (whole_text drawn joined) = keep c
-    (whole_text drawn joined) are in
+    let same : spoken_lines (commented_text c drawn joined) ≡ spoken_lines (whole_text drawn joined) =
+    keep c (whole_text drawn joined) are in
     record {
       same = same;
       again = (decide (whole_text drawn joined) (commented_text c drawn joined) joined (sym same)).0 again;

@@ -7,8 +7,6 @@ use Rattle.drawing_edits.specs.declared.edit_fault.EditFault.TheVariants as faul
 use Rattle.drawing_edits.specs.EditedDrawings.{edited_drawing}
 use Rattle.drawing_edits.specs.EditFaults.{edit_is_out_of_memory}
 use Rattle.drawing_text.specs.declared.draw_fault.DrawFault.{DrawFault}
-use Rattle.drawing_comments.specs.MovedComments.{block_comments}
-use Rattle.drawing_comments.specs.declared.text_comments.TextComments.{TextComments}
 use Rattle.line_graph.specs.Drawings.{DrawingValue}
 use Rattle.line_graph.specs.GrowingDrawings.{and_then, step_count}
 use Rattle.line_graph.specs.Pieces.{ArePieces}
@@ -21,6 +19,7 @@ use Rattle.drawing_commands.specs.declared.bad_edit.BadEdit.{BadEdit}
 use Rattle.drawing_commands.specs.FaultTexts.{plan_after_reading}
 use Rattle.drawing_commands.specs.declared.text_reading.TextRead.{TextRead}
 use Rattle.drawing_commands.specs.CutProducts.{IsCutProduct}
+use Rattle.drawing_commands.specs.EditComments.{edit_comments}
 use Rattle.drawing_commands.specs.TextsRead.{text_read}
 use Rattle.drawing_commands.specs.VersionOne.{plan_if_kept}
 
@@ -62,24 +61,24 @@ edit_fault_text fault.OtherBlock = codes "pieces in different blocks"
 abbrev pub bad_edit_text : List ℕ → BadEdit → List ℕ
 bad_edit_text name bad = text_at name (codes "edit") bad.number (edit_fault_text bad.fault)
 
--- The product of `edit`: the edited drawing, written with its lines cut, and a report with the
--- number of lines, the number of pieces and the cost.
-pub record IsEdited (output : List ℕ) (comments : TextComments) (d : DrawingValue)
-    (product : ProductValue) : Type 0 where
+-- The product of `edit`: the edited drawing, written with its lines cut and with the comments of
+-- what was read, and a report with the number of lines, the number of pieces and the cost.
+pub record IsEdited (output : List ℕ) (edits : List DrawingEdit) (text : TextRead)
+    (d : DrawingValue) (product : ProductValue) : Type 0 where
   pub pieces : List (List ℕ)
   pub pieces_are : ArePieces d pieces
-  pub written : IsCutProduct output (block_comments comments) d
+  pub written : IsCutProduct output (edit_comments text edits d) d
       (migrate_report (length d.lines) (length pieces) (step_count d.step d.lines)) product
 
 -- The plan for the result of the edits: a drawing is accepted, and a bad edit is refused.
-abbrev pub edited_plan : (input output : List ℕ) → TextComments → Result DrawingValue BadEdit → Plan
-edited_plan input output comments (Ok d) = accepts (IsEdited output comments d)
-edited_plan input output comments (Err bad) = refuses (bad_edit_text input bad)
+abbrev pub edited_plan : DrawingEditOrder → TextRead → Result DrawingValue BadEdit → Plan
+edited_plan order text (Ok d) = accepts (IsEdited order.output order.edits text d)
+edited_plan order text (Err bad) = refuses (bad_edit_text order.input bad)
 
 -- The plan for a drawing: it is edited, if no line is cut but by an edit.
 abbrev pub edit_lines : DrawingEditOrder → TextRead → Plan
-edit_lines order text = plan_if_kept order.input text.lines.drawing (edited_plan order.input
-    order.output text.comments (edits_applied 1 order.edits text.lines.drawing))
+edit_lines order text = plan_if_kept order.input text.lines.drawing
+    (edited_plan order text (edits_applied 1 order.edits text.lines.drawing))
 
 -- The plan for the result of reading the drawing: it is edited, and a fault is refused.
 abbrev pub drawing_edit_read : DrawingEditOrder → Result TextRead DrawFault → Plan

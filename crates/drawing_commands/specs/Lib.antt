@@ -18,6 +18,7 @@ pub mod VersionOne
 pub mod FreeOrders
 pub mod NearFiles
 pub mod DrawingEditWords
+pub mod EditComments
 pub mod DrawingEditing
 pub mod Names
 pub mod SpaceWords

@@ -61,12 +61,13 @@ fn edit_read<'a>(alloc: Global, names: FileNames<'a>, edits: &[String], text: &T
     requires some { 1 ≤ length edits.now }
     requires ordered { HasOrderedEnds text.now.lines.drawing }
     requires comments { AreTextComments text.now.comments }
-    ensures { RunsPurePlan (edited_plan names.entry.input.now names.entry.output.now text.now.comments
+    ensures { RunsPurePlan (edited_plan (drawing_edit_order names.entry.input.now names.entry.output.now
+        (drawing_edits_of (map (λ word. string_bytes word) edits.now))) text.now
         (edits_applied 1 (drawing_edits_of (map (λ word. string_bytes word) edits.now))
         text.now.lines.drawing)) result }
 {
     match edited(alloc, &text.lines.drawing, edits) {
-        Ok(drawing) => written(alloc, names.output, &text.comments, &drawing),
+        Ok(drawing) => written(alloc, names.output, edits, text, &drawing),
         Err(bad) => Err(edit_failure(alloc, names.input, bad)),
     }
 }

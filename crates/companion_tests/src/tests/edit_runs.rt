@@ -16,6 +16,14 @@ pub const FILES: &[(&str, &str)] = &[
         "# top\nredwork 2\nstep 10\n# red\ncolor 1\n# a\nline 0 0 40 0\n# blue\ncolor 2\nline 0 0 0 20\n# end",
     ),
     (
+        "parts.rw",
+        "redwork 2\nstep 10\ncolor 1\n# bar\nline 0 0 40 0 80 0\n# stem\nline 40 0 40 40\n# side\nline 100 0 140 0 180 0\n# again\nline 100 0 140 0 180 0\n",
+    ),
+    (
+        "two.rw",
+        "# top\nredwork 2\nstep 10\n# red\ncolor 1\n# a\nline 0 0 40 0 80 0\n# b\nline 100 0 140 0\n# end\n",
+    ),
+    (
         "path.rw",
         "redwork 1\nstep 20\ncolor 1\nline 0 0 8 0\nline 8 0 8 5\n",
     ),
@@ -49,7 +57,16 @@ pub const RUNS: &[Run] = &[
     refused!("edit one.rw out.rw shift=5,-3" => "stitch_drawing: one.rw: redwork 1 can't be kept: migrate it first\n"),
     done!("edit said.rw out.rw shift=5,-3" =>
         "lines 2 pieces 2 cost 6\n",
-        "# top\nredwork 2\nstep 10\n# red\ncolor 1\nline 5 -3 45 -3\n# blue\ncolor 2\nline 5 -3 5 17\n# end\n"),
+        "# top\nredwork 2\nstep 10\n# red\ncolor 1\n# a\nline 5 -3 45 -3\n# blue\ncolor 2\nline 5 -3 5 17\n# end\n"),
+    done!("edit parts.rw out.rw shift=5,-3" =>
+        "lines 7 pieces 2 cost 28\n",
+        "redwork 2\nstep 10\ncolor 1\n# bar\nline 5 -3 45 -3\nline 45 -3 85 -3\n# stem\nline 45 -3 45 37\n# side\nline 105 -3 145 -3\nline 145 -3 185 -3\n# again\nline 105 -3 145 -3\nline 145 -3 185 -3\n"),
+    done!("edit parts.rw out.rw order=2,1" =>
+        "lines 7 pieces 2 cost 28\n",
+        "redwork 2\nstep 10\ncolor 1\n# side\nline 100 0 140 0\nline 140 0 180 0\n# again\nline 100 0 140 0\nline 140 0 180 0\n# bar\nline 0 0 40 0\nline 40 0 80 0\n# stem\nline 40 0 40 40\n"),
+    done!("edit two.rw out.rw turn=1 order=2,1 start=0,40" =>
+        "lines 3 pieces 2 cost 12\n",
+        "# top\nredwork 3\nstep 10\n# red\ncolor 1\n# b\nline 0 100 0 140\n# a\nline 0 0 0 40\nline 0 40 0 80\nstart 0 40\n# end\n"),
     done!("edit path.rw out.rw shift=5,-3" =>
         "lines 2 pieces 1 cost 2\n",
         "redwork 2\nstep 20\ncolor 1\nline 5 -3 13 -3\nline 13 -3 13 2\n"),
