@@ -130,9 +130,10 @@ known_key = refl
 pub known_picture : picture_of design (Some (record { width = 100; height = 50 })) (Some (record { width = 210; height = 297 }))
     ≡ top ++ (frame ++ (threads ++ (seconds ++ (holes_and_arrows ++ (marks ++ (below ++ (key ++ legend)))))))
 unfolding again_colour_of arc_text around arrow_shape below_head below_start below_text block_start block_words caption
-    coloured_path colour_of_thread digits filled foot_text framed_text group_end head_text hole_shape hoop_end hoop_key_end hoop_key_start
-    hoop_start hoop_text length_of mark_text middle_mark move_text name_of_thread offset_text over_text path_end path_layer path_start picture_with
-    piece_number seconds_text sewn_text_of shape_at square_of straight_text threads_text title_text top_text travel_shape whole_root
+    coloured_path colour_of_thread digits filled foot_text framed_text group_end head_text hole_shape hoop_end
+    hoop_key_end hoop_key_start hoop_start hoop_text length_of mark_text middle_mark move_text name_of_thread
+    offset_text over_text path_end path_layer path_start picture_with piece_number seconds_text sewn_text_of shape_at
+    square_of straight_text threads_text title_text top_text travel_shape whole_root
 known_picture = refl
 
 -- The thread alone on the colour fafbfc: the sheet has 6 mm around 4 mm by 7.1 mm, and is to fit a square of 1 cm.

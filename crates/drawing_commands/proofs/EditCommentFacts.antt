@@ -3,7 +3,7 @@ use Rattle.std.proofs.Common.{◌≡◌, ℕ, pos, true, false, List, [], ◌∷
 use Rattle.design_edits.specs.declared.axis.Axis.TheVariants as axis
 use Rattle.design_edits.specs.declared.motion.Motion.TheVariants as motion
 use Rattle.design_model.specs.declared.point.Point.{Point}
-use Rattle.drawing_commands.proofs.Names.{DrawingEdit, DrawingValue, edit_comments, is_order, ordered_alone}
+use Rattle.drawing_commands.proofs.Names.{DrawingEdit, DrawingValue, comments_of_edits, orders_pieces, drawing_ordered_alone}
 use Rattle.drawing_commands.specs.declared.text_reading.TextRead.{TextRead}
 use Rattle.drawing_edits.specs.declared.drawing_edit.DrawingEdit.TheVariants as edit
 use Rattle.drawing_text.specs.declared.version.Version.TheVariants as version
@@ -13,9 +13,9 @@ abbrev at : ℕ → ℕ → Point
 at x y = record { x = pos x; y = pos y }
 
 -- orders, and other edits
-pub known_is_order : (is_order (edit.Order 2 1) ≡ true) × (is_order (edit.Move (motion.Mirror axis.X)) ≡ false)
-    × (is_order edit.Centre ≡ false) × (is_order (edit.Step 9) ≡ false) × (is_order (edit.Start (at 0 0)) ≡ false)
-    × (is_order (edit.End (at 0 0)) ≡ false)
+pub known_is_order : (orders_pieces (edit.Order 2 1) ≡ true) × (orders_pieces (edit.Move (motion.Mirror axis.X)) ≡ false)
+    × (orders_pieces edit.Centre ≡ false) × (orders_pieces (edit.Step 9) ≡ false) × (orders_pieces (edit.Start (at 0 0)) ≡ false)
+    × (orders_pieces (edit.End (at 0 0)) ≡ false)
 known_is_order = (refl, refl, refl, refl, refl, refl)
 
 -- a drawing of lines in one block
@@ -67,15 +67,15 @@ order = edit.Order 2 1
 abbrev no_order : DrawingEdit
 no_order = edit.Order 3 1
 
-pub known_ordered_alone : (ordered_alone (shift ∷ edit.Centre ∷ []) cut ≡ None)
-    × (ordered_alone (shift ∷ order ∷ []) cut ≡ Some side_first)
-    × (ordered_alone (no_order ∷ []) cut ≡ None) × (ordered_alone (order ∷ no_order ∷ shift ∷ []) cut ≡ Some side_first)
-    × (ordered_alone (order ∷ order ∷ []) cut ≡ Some cut)
+pub known_ordered_alone : (drawing_ordered_alone (shift ∷ edit.Centre ∷ []) cut ≡ None)
+    × (drawing_ordered_alone (shift ∷ order ∷ []) cut ≡ Some side_first)
+    × (drawing_ordered_alone (no_order ∷ []) cut ≡ None) × (drawing_ordered_alone (order ∷ no_order ∷ shift ∷ []) cut ≡ Some side_first)
+    × (drawing_ordered_alone (order ∷ order ∷ []) cut ≡ Some cut)
 known_ordered_alone = (refl, refl, refl, refl, refl)
 
 -- the text has the given comments of lines after edits
 abbrev HasComments : List DrawingEdit → DrawingValue → List (List ℕ) → Type 0
-HasComments edits edited comments = edit_comments text edits edited
+HasComments edits edited comments = comments_of_edits text edits edited
     ≡ record { top = codes "#t"; blocks = codes "#r" ∷ []; lines = comments; last = codes "#e" }
 
 -- without orders each line keeps its comment, also where a start cuts a line
@@ -96,6 +96,6 @@ pub known_lines_ordered : HasComments (order ∷ []) side_first (codes "#side" �
 known_lines_ordered = (refl, refl, refl)
 
 -- without comments of lines those of blocks are left
-pub known_no_comments_of_lines : edit_comments (read_with ([] ∷ [] ∷ [] ∷ [])) (order ∷ []) side_first
+pub known_no_comments_of_lines : comments_of_edits (read_with ([] ∷ [] ∷ [] ∷ [])) (order ∷ []) side_first
     ≡ record { top = codes "#t"; blocks = codes "#r" ∷ []; lines = []; last = codes "#e" }
 known_no_comments_of_lines = refl

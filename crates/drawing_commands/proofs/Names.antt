@@ -8,7 +8,8 @@ pub use Rattle.drawing_commands.specs.Commands.{stitch_drawing_after}
 pub use Rattle.drawing_commands.specs.DrawingEditWords.{drawing_edits_of, parsed_drawing_edit, parsed_drawing_edits}
 pub use Rattle.drawing_commands.specs.DrawingEditing.{IsEdited, at_edit, bad_edit_is_out_of_memory, bad_edit_text, drawing_edit_order}
 pub use Rattle.drawing_commands.specs.DrawingEditing.{drawing_edit_read, edit_fault_text, edited_plan, edits_applied}
-pub use Rattle.drawing_commands.specs.EditComments.{edit_comments, is_order, ordered_alone, orders_from, with_order}
+pub use Rattle.drawing_commands.specs.EditComments.{comments_of_edits, drawing_ordered_alone, drawing_with_order}
+pub use Rattle.drawing_commands.specs.EditComments.{orders_from, orders_pieces}
 pub use Rattle.drawing_commands.specs.FreeOrders.{IsFreeProduct, free_made, free_order, free_read}
 pub use Rattle.drawing_commands.specs.NearFiles.{IsNearProduct, near_file_order, near_made, near_read}
 pub use Rattle.drawing_commands.specs.Looks.{IsLook, look_order, look_read}

@@ -19,7 +19,7 @@ use Rattle.drawing_commands.specs.declared.bad_edit.BadEdit.{BadEdit}
 use Rattle.drawing_commands.specs.FaultTexts.{plan_after_reading}
 use Rattle.drawing_commands.specs.declared.text_reading.TextRead.{TextRead}
 use Rattle.drawing_commands.specs.CutProducts.{IsCutProduct}
-use Rattle.drawing_commands.specs.EditComments.{edit_comments}
+use Rattle.drawing_commands.specs.EditComments.{comments_of_edits}
 use Rattle.drawing_commands.specs.TextsRead.{text_read}
 use Rattle.drawing_commands.specs.VersionOne.{plan_if_kept}
 
@@ -67,7 +67,7 @@ pub record IsEdited (output : List ℕ) (edits : List DrawingEdit) (text : TextR
     (d : DrawingValue) (product : ProductValue) : Type 0 where
   pub pieces : List (List ℕ)
   pub pieces_are : ArePieces d pieces
-  pub written : IsCutProduct output (edit_comments text edits d) d
+  pub written : IsCutProduct output (comments_of_edits text edits d) d
       (migrate_report (length d.lines) (length pieces) (step_count d.step d.lines)) product
 
 -- The plan for the result of the edits: a drawing is accepted, and a bad edit is refused.

@@ -12,30 +12,31 @@ use Rattle.line_graph.specs.Drawings.{DrawingValue}
 use Rattle.drawing_commands.specs.declared.text_reading.TextRead.{TextRead}
 
 -- An edit orders pieces.
-abbrev pub is_order : DrawingEdit → Bool
-is_order (edit.Order first second) = true
-is_order other = false
+abbrev pub orders_pieces : DrawingEdit → Bool
+orders_pieces (edit.Order first second) = true
+orders_pieces other = false
 
 -- The drawing after an edit, or what was before where the edit is refused.
-abbrev pub unless_refused : Option DrawingValue → Result DrawingValue EditFault
+abbrev pub edited_if : Option DrawingValue → Result DrawingValue EditFault
     → Option DrawingValue
-unless_refused before (Ok d) = Some d
-unless_refused before (Err why) = before
+edited_if before (Ok d) = Some d
+edited_if before (Err why) = before
 
 -- The drawing after the orders before an edit, if there are some, and after the edit, if it is one.
-abbrev pub with_order : DrawingValue → Option DrawingValue → DrawingEdit → Option DrawingValue
-with_order d before one =
-    if is_order one then unless_refused before (edited_drawing one (unwrap_or before d)) else before
+abbrev pub drawing_with_order : DrawingValue → Option DrawingValue → DrawingEdit
+    → Option DrawingValue
+drawing_with_order d before one =
+    if orders_pieces one then edited_if before (edited_drawing one (unwrap_or before d)) else before
 
 -- The drawing after those before, and after the edits that order pieces, alone.
 abbrev pub orders_from : DrawingValue → Option DrawingValue → List DrawingEdit
     → Option DrawingValue
 orders_from d before [] = before
-orders_from d before (one ∷ rest) = orders_from d (with_order d before one) rest
+orders_from d before (one ∷ rest) = orders_from d (drawing_with_order d before one) rest
 
 -- The drawing after the edits that order pieces, alone, if one of them does.
-abbrev pub ordered_alone : List DrawingEdit → DrawingValue → Option DrawingValue
-ordered_alone edits d = orders_from d None edits
+abbrev pub drawing_ordered_alone : List DrawingEdit → DrawingValue → Option DrawingValue
+drawing_ordered_alone edits d = orders_from d None edits
 
 -- The comments before the lines of an edited drawing, by the drawing after its orders alone: line
 -- for line, and before the first part of a line that an edit cut.
@@ -49,7 +50,7 @@ comments_in_order text (Some ordered) edited =
 
 -- The comments of what was read, before the lines of the drawing after edits. Where no line has
 -- one, there are those of blocks.
-abbrev pub edit_comments : TextRead → List DrawingEdit → (edited : DrawingValue) → TextComments
-edit_comments text edits edited =
+abbrev pub comments_of_edits : TextRead → List DrawingEdit → (edited : DrawingValue) → TextComments
+comments_of_edits text edits edited =
     if has_no_line_comments text.comments then block_comments text.comments
-    else comments_in_order text (ordered_alone edits text.lines.drawing) edited
+    else comments_in_order text (drawing_ordered_alone edits text.lines.drawing) edited

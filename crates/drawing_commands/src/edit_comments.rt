@@ -1,5 +1,5 @@
 ghost use Rattle.drawing_commands.specs.DrawingEditWords.{drawing_edits_of, parsed_drawing_edits};
-ghost use Rattle.drawing_commands.specs.EditComments.{comments_in_order, edit_comments as comments_of_edits};
+ghost use Rattle.drawing_commands.specs.EditComments.{comments_in_order, comments_of_edits};
 ghost use Rattle.drawing_comments.specs.CommentLaws.{AreTextComments};
 ghost use Rattle.std.specs.Prelude.{◌≡◌, IfOk, IsSome, Some, map, string_bytes};
 

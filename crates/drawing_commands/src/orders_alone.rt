@@ -1,5 +1,5 @@
 ghost use Rattle.drawing_commands.specs.DrawingEditWords.{drawing_edits_of, parsed_drawing_edit, parsed_drawing_edits};
-ghost use Rattle.drawing_commands.specs.EditComments.{is_order as orders_pieces, ordered_alone as drawing_ordered_alone, with_order as drawing_with_order};
+ghost use Rattle.drawing_commands.specs.EditComments.{orders_pieces, drawing_ordered_alone, drawing_with_order};
 ghost use Rattle.drawing_edits.specs.EditFaults.{edit_is_out_of_memory};
 ghost use Rattle.drawing_edits.specs.EditedDrawings.{IsDrawingEdit};
 ghost use Rattle.std.specs.Prelude.{◌≡◌, IfOk, IfSome, IsSome, false, map, string_bytes, unwrap_or};

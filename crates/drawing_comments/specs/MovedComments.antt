@@ -30,12 +30,12 @@ abbrev pub block_comments : TextComments → TextComments
 block_comments c = comments_of_parts c []
 
 -- There is no comment: it is empty.
-abbrev pub is_no_comment : List ℕ → Bool
-is_no_comment comment = length comment == 0
+abbrev pub is_empty_comment : List ℕ → Bool
+is_empty_comment comment = length comment == 0
 
 -- No line of a text has a comment.
-abbrev pub has_no_line_comments : TextComments → Bool
-has_no_line_comments c = list_all is_no_comment c.lines
+abbrev pub has_uncommented_lines : TextComments → Bool
+has_uncommented_lines c = list_all is_empty_comment c.lines
 
 -- The comments of parts are comments.
 abbrev pub PartsKeepComments : Type 0

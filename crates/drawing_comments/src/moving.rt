@@ -1,5 +1,5 @@
 ghost use Rattle.drawing_comments.specs.CommentLaws.{AreTextComments};
-ghost use Rattle.drawing_comments.specs.MovedComments.{block_comments, comments_of_parts, has_no_line_comments as has_uncommented_lines, is_no_comment as is_empty_comment, line_comments, part_comments, uncommented};
+ghost use Rattle.drawing_comments.specs.MovedComments.{block_comments, comments_of_parts, has_uncommented_lines, is_empty_comment, line_comments, part_comments, uncommented};
 ghost use Rattle.std.specs.Prelude.{◌≡◌, ◌++◌, IfOk, OnOk};
 
 use crate::text_comments::TextComments;

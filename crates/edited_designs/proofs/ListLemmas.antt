@@ -59,11 +59,13 @@ none_mistaken (word ∷ words) none = by_first (parsed_change word) none (none_m
 -- whether thumbnails are drawn, by the first edit and the others
 pub next_drawn : (edit : DesignEdit) (word : List ℕ) (left rest : List (List ℕ)) → left ≡ word ∷ rest
     → parsed_change word ≡ Some (design_change edit) → IsSome (parsed_changes left)
-    → IsSome (parsed_changes rest) × (draws_thumbnails (changes_of left) ≡ (is_pictured (design_change edit) || draws_thumbnails (changes_of rest)))
+    → IsSome (parsed_changes rest) × (draws_thumbnails (changes_of left)
+    ≡ (is_pictured (design_change edit) || draws_thumbnails (changes_of rest)))
 next_drawn edit word left rest begins is some =
     let some_first : IsSome (parsed_changes (word ∷ rest)) = subst (λ words. IsSome (parsed_changes words)) begins some in (
       later_parsed (parsed_change word) (parsed_changes rest) some_first,
-      ap (λ words. draws_thumbnails (changes_of words)) begins ∙ ap (λ first. draws_thumbnails (unwrap_or (with_first_edit first (parsed_changes rest)) [])) is
+      ap (λ words. draws_thumbnails (changes_of words)) begins ∙ ap (λ first. draws_thumbnails
+          (unwrap_or (with_first_edit first (parsed_changes rest)) [])) is
           ∙ by_later (parsed_changes rest) (later_parsed (parsed_change word) (parsed_changes rest) some_first),
     )
   where

@@ -109,7 +109,8 @@ known_sizes = refl
 
 -- Two sides have an `x` between them, each from 10 to 2000.
 pub known_size_texts : map size_in_text (codes "10x2000" ∷ codes "9x10" ∷ codes "10x9" ∷ codes "2001x10" ∷ codes "10x2001"
-    ∷ codes "10" ∷ codes "10x" ∷ codes "x10" ∷ codes "10x10x10" ∷ codes "10X10" ∷ codes "-10x10" ∷ codes "10.5x10" ∷ [] ∷ []) ≡ in_size 10 2000 ∷ replicate 12 None
+    ∷ codes "10" ∷ codes "10x" ∷ codes "x10" ∷ codes "10x10x10" ∷ codes "10X10" ∷ codes "-10x10" ∷ codes "10.5x10" ∷ [] ∷ [])
+    ≡ in_size 10 2000 ∷ replicate 12 None
 known_size_texts = refl
 
 -- The mistakes of names come first, and a size is nothing but the last argument.

@@ -20,8 +20,8 @@ abbrev pub rounded_quotient : ℕ → ℕ → ℕ
 rounded_quotient a b = (2 * a + b) / (2 * max b 1)
 
 -- A sheet is wider or higher than the size that its picture is to fit.
-abbrev pub is_reduced : PictureSize → Sheet → Bool
-is_reduced size sheet =
+abbrev pub is_smaller : PictureSize → Sheet → Bool
+is_smaller size sheet =
     nat_lt (10 * size.width) sheet.width || nat_lt (10 * size.height) sheet.height
 
 -- How many tenths of its size a sheet has for one of the picture's: by the side that fits worse.
@@ -36,7 +36,7 @@ enlargement_of size sheet = min (rounded_quotient (100 * size.width) sheet.width
 
 -- The scale of a sheet whose picture is to fit a size, in tenths.
 abbrev pub scale_words : PictureSize → Sheet → List ℕ
-scale_words size sheet = if is_reduced size sheet
+scale_words size sheet = if is_smaller size sheet
     then filled (codes "scale 1 : @") (mm_text (reduction_of size sheet) ∷ [])
     else filled (codes "scale @ : 1") (mm_text (enlargement_of size sheet) ∷ [])
 

@@ -1,4 +1,4 @@
-ghost use Rattle.picture_parts.specs.Sizes.{enlargement_of, height_in, is_reduced as is_smaller, reduction_of, rounded_quotient, scale_if_sized, scale_words, width_in};
+ghost use Rattle.picture_parts.specs.Sizes.{enlargement_of, height_in, is_smaller, reduction_of, rounded_quotient, scale_if_sized, scale_words, width_in};
 ghost use Rattle.std.specs.Prelude.{◌≡◌, ◌++◌, OnOk};
 
 use crate::parts::{Part, put};

@@ -1,16 +1,16 @@
 -- The points of a line that are left, and the rows of a thumbnail, one at a time.
 use Rattle.std.proofs.Common.{◌≡◌, ℕ, suc, ◌+◌, ◌-◌, ◌<◌, ◌≤◌, List, ◌++◌, append_assoc, arith, ap, sym, ◌∙◌}
 use Rattle.thumbnails.specs.declared.lit_points.ThumbPoint.{ThumbPoint}
-use Rattle.thumbnails.specs.LitPoints.{ThumbPoints, line_length, line_point, with_line_from, with_thumb_point}
+use Rattle.thumbnails.specs.LitPoints.{ThumbPoints, length_of_line, point_of_line, with_line_from, with_thumb_point}
 use Rattle.thumbnails.specs.Packings.{row_bytes, rows_from}
 
 -- The next point of a line is lit.
-pub lights_next : (old new all : ThumbPoints) (one a b : ThumbPoint) (steps step : ℕ) → step ≤ steps → steps ≡ line_length a b
-    → one ≡ line_point steps step a b → new ≡ with_thumb_point old one → with_line_from old a b step (steps + 1 - step) ≡ all
+pub lights_next : (old new all : ThumbPoints) (one a b : ThumbPoint) (steps step : ℕ) → step ≤ steps → steps ≡ length_of_line a b
+    → one ≡ point_of_line steps step a b → new ≡ with_thumb_point old one → with_line_from old a b step (steps + 1 - step) ≡ all
     → with_line_from new a b (step + 1) (steps + 1 - (step + 1)) ≡ all
 lights_next old new all one a b steps step most steps_are one_is lit before =
     let more : steps + 1 - step ≡ suc (steps + 1 - (step + 1)) = omega (arith, most) in
-    let there : one ≡ line_point (line_length a b) step a b = one_is ∙ ap (λ (n : ℕ). line_point n step a b) steps_are in
+    let there : one ≡ point_of_line (length_of_line a b) step a b = one_is ∙ ap (λ (n : ℕ). point_of_line n step a b) steps_are in
     ap (λ (points : ThumbPoints). with_line_from points a b (step + 1) (steps + 1 - (step + 1))) (lit ∙ ap (with_thumb_point old) there)
     ∙ sym (ap (with_line_from old a b step) more) ∙ before
 

@@ -132,7 +132,8 @@ module _ (kind : FileKind) (d : DesignValue) where
         blank = joined (front_of kind) header body blank
             ∙ ap (λ first. first ++ blank) (sym before) ∙ ap (λ n. before_thumbnails d file ++ replicate n 0) (sym count);
         reads = ap (file_reads kind) with_drawn ∙ read drawn
-            ∙ ap (λ (records : Records). loaded_with (label_in (label_field d.label)) (threads_of d (stops + 1)) (file_commands records)) same
+            ∙ ap (λ (records : Records). loaded_with (label_in (label_field d.label)) (threads_of d (stops + 1))
+            (file_commands records)) same
             ∙ sym (read blank);
         moves = ap (file_moves kind) with_drawn ∙ moved drawn ∙ ap moves_of_records same ∙ sym (moved blank);
         size = ap length with_drawn ∙ ap length (joined (front_of kind) header body drawn)

@@ -72,7 +72,8 @@ clash b one two = cc
 pub tails : TailsAreNotRead
 tails [] tail n behind at ended = absurd (clash _ ended (blank_ends n behind at))
 tails (byte ∷ rest) tail n (suc behind) at ended = tails rest tail n behind (at + 1) ended
-tails (byte ∷ rest) tail n zero at ended = pick (λ k behind_end. tails rest tail n k (at + 1) behind_end) (is_long first (length rest + 1)) refl
+tails (byte ∷ rest) tail n zero at ended = pick (λ k behind_end. tails rest tail n k (at + 1) behind_end)
+    (is_long first (length rest + 1)) refl
   where
     first : NextRecord
     first = next_record_in (byte ∷ (rest ++ replicate n 0))

@@ -9,7 +9,7 @@ use Rattle.pec_codec.specs.declared.block.TheConstants.{THUMBNAIL_LENGTH}
 use Rattle.thumbnails.specs.declared.lit_points.ThumbPoint.{ThumbPoint}
 use Rattle.thumbnails.specs.declared.packing.TheConstants.{ROWS}
 use Rattle.thumbnails.specs.declared.scaling.TheConstants.{ACROSS, BORDER, DOWN}
-use Rattle.thumbnails.specs.LitPoints.{line_point, no_points, with_thumb_line, with_thumb_point}
+use Rattle.thumbnails.specs.LitPoints.{point_of_line, no_points, with_thumb_line, with_thumb_point}
 use Rattle.thumbnails.specs.Packings.{byte_at, thumb_bytes}
 use Rattle.thumbnails.specs.Scales.{thumb_point, view_of}
 use Rattle.thumbnails.specs.Sketches.{drawn_thumbnails_of}
@@ -35,16 +35,19 @@ pub known_high : map (thumb_point (view_of (Some (record { min = point (pos 5) (
 known_high = refl
 
 -- A single needle is in the middle, and so is the origin of a design without needles.
-pub known_single : (thumb_point (view_of (Some (record { min = point (pos 7) (pos 8); max = point (pos 7) (pos 8) }))) (point (pos 7) (pos 8))
+pub known_single : (thumb_point (view_of (Some (record { min = point (pos 7) (pos 8); max = point (pos 7) (pos 8) })))
+    (point (pos 7) (pos 8))
     ≡ at 23 18) × (thumb_point (view_of None) (point (pos 0) (pos 0)) ≡ at 23 18)
 known_single = (refl, refl)
 
 -- A line of 4 columns and 2 rows back: after 1 step half a row is rounded up.
-pub known_line : map (λ step. line_point 4 step (at 1 7) (at 5 5)) (0 ∷ 1 ∷ 2 ∷ 3 ∷ 4 ∷ []) ≡ at 1 7 ∷ at 2 7 ∷ at 3 6 ∷ at 4 6 ∷ at 5 5 ∷ []
+pub known_line : map (λ step. point_of_line 4 step (at 1 7) (at 5 5)) (0 ∷ 1 ∷ 2 ∷ 3 ∷ 4 ∷ [])
+    ≡ at 1 7 ∷ at 2 7 ∷ at 3 6 ∷ at 4 6 ∷ at 5 5 ∷ []
 known_line = refl
 
 -- The points of that line, and none beside it.
-pub known_lit : map (with_thumb_line no_points (at 1 7) (at 5 5)) (at 1 7 ∷ at 2 7 ∷ at 3 6 ∷ at 4 6 ∷ at 5 5 ∷ at 2 6 ∷ at 3 7 ∷ at 6 5 ∷ [])
+pub known_lit : map (with_thumb_line no_points (at 1 7) (at 5 5))
+    (at 1 7 ∷ at 2 7 ∷ at 3 6 ∷ at 4 6 ∷ at 5 5 ∷ at 2 6 ∷ at 3 7 ∷ at 6 5 ∷ [])
     ≡ true ∷ true ∷ true ∷ true ∷ true ∷ false ∷ false ∷ false ∷ []
 known_lit = refl
 
@@ -73,7 +76,7 @@ end_row = 16 ∷ 0 ∷ 0 ∷ 0 ∷ 0 ∷ 8 ∷ []
 abbrev blank : ℕ → List ℕ
 blank rows = replicate (6 * rows) 0
 
--- The needle at (20, 10), in column 24 and row 14.
+-- The needle at 20 across and 10 down, in column 24 and row 14.
 abbrev single_row : List ℕ
 single_row = 0 ∷ 0 ∷ 0 ∷ 1 ∷ 0 ∷ 0 ∷ []
 

@@ -19,31 +19,33 @@ abbrev pub with_thumb_point : ThumbPoints → ThumbPoint → ThumbPoints
 with_thumb_point points one other = if is_same_thumb_point one other then true else points other
 
 -- The difference of two numbers.
-abbrev pub difference : ℕ → ℕ → ℕ
-difference a b = max a b - min a b
+abbrev pub difference_of : ℕ → ℕ → ℕ
+difference_of a b = max a b - min a b
 
--- The steps of a straight line: the difference of its columns or of its rows, whichever is greater.
-abbrev pub line_length : ThumbPoint → ThumbPoint → ℕ
-line_length a b = max (difference a.column b.column) (difference a.row b.row)
+-- The steps of a straight line: the difference of its columns or of its rows, whichever is
+-- greater.
+abbrev pub length_of_line : ThumbPoint → ThumbPoint → ℕ
+length_of_line a b = max (difference_of a.column b.column) (difference_of a.row b.row)
 
 -- The coordinate after some of the steps from one to another, rounded to the nearest.
-abbrev pub between : (steps step a b : ℕ) → ℕ
-between steps step a b = if steps == 0 then a
+abbrev pub between_steps : (steps step a b : ℕ) → ℕ
+between_steps steps step a b = if steps == 0 then a
     else min ((a * (steps - step) + b * step + steps / 2) / steps) 47
 
 -- The point after some of the steps of a line.
-abbrev pub line_point : (steps step : ℕ) → ThumbPoint → ThumbPoint → ThumbPoint
-line_point steps step a b = record {
-  column = between steps step a.column b.column;
-  row = between steps step a.row b.row;
+abbrev pub point_of_line : (steps step : ℕ) → ThumbPoint → ThumbPoint → ThumbPoint
+point_of_line steps step a b = record {
+  column = between_steps steps step a.column b.column;
+  row = between_steps steps step a.row b.row;
 }
 
 -- Points with those of a line from a step on, of which some are left.
 abbrev pub with_line_from : ThumbPoints → ThumbPoint → ThumbPoint → (step left : ℕ) → ThumbPoints
 with_line_from points a b step zero = points
 with_line_from points a b step (suc left) =
-    with_line_from (with_thumb_point points (line_point (line_length a b) step a b)) a b (step + 1) left
+    with_line_from (with_thumb_point points (point_of_line (length_of_line a b) step a b)) a b
+    (step + 1) left
 
 -- Points with those of a line, both ends included.
 abbrev pub with_thumb_line : ThumbPoints → ThumbPoint → ThumbPoint → ThumbPoints
-with_thumb_line points a b = with_line_from points a b 0 (line_length a b + 1)
+with_thumb_line points a b = with_line_from points a b 0 (length_of_line a b + 1)

@@ -1,5 +1,5 @@
--- Where a needle is in a thumbnail of 48 by 38 points. A design is scaled to fit 40 by 30 of them, in
--- the middle, with four points on each side of it (own).
+-- Where a needle is in a thumbnail of 48 by 38 points. A design is scaled to fit 40 by 30 of them,
+-- in the middle, with four points on each side of it (own).
 use Rattle.std.specs.Prelude.{ℕ, ℤ, ◌+◌, ◌-◌, ◌*◌, ◌/◌, ◌-ℤ◌, unsigned_abs, max, min, Option, Some, None}
 use Rattle.design_model.specs.declared.bounds.Extent.{Extent}
 use Rattle.design_model.specs.declared.point.Point.{Point}
@@ -15,8 +15,8 @@ abbrev pub full_length : Option Extent → ℕ
 full_length extent = max (max (extent_width extent * DOWN) (extent_height extent * ACROSS)) 1
 
 -- A length in points.
-abbrev pub shrunk : (full length : ℕ) → ℕ
-shrunk full length = length * (ACROSS * DOWN) / full
+abbrev pub shrunk_to : (full length : ℕ) → ℕ
+shrunk_to full length = length * (ACROSS * DOWN) / full
 
 -- The points before a design that takes so many of a room.
 abbrev pub points_before : (room taken : ℕ) → ℕ
@@ -32,14 +32,14 @@ abbrev pub view_of : Option Extent → View
 view_of extent = record {
   least = least_point extent;
   full = full_length extent;
-  left = points_before ACROSS (shrunk (full_length extent) (extent_width extent));
-  above = points_before DOWN (shrunk (full_length extent) (extent_height extent));
+  left = points_before ACROSS (shrunk_to (full_length extent) (extent_width extent));
+  above = points_before DOWN (shrunk_to (full_length extent) (extent_height extent));
 }
 
 -- A column or a row, before which are some points: where a coordinate is after the least one.
 abbrev pub place_of : (full before most : ℕ) → (coordinate least : ℤ) → ℕ
 place_of full before most coordinate least =
-    min (before + shrunk full (unsigned_abs (coordinate -ℤ least))) most
+    min (before + shrunk_to full (unsigned_abs (coordinate -ℤ least))) most
 
 -- Where a needle is.
 abbrev pub thumb_point : View → Point → ThumbPoint

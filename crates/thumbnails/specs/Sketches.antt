@@ -16,8 +16,8 @@ use Rattle.thumbnails.specs.LitPoints.{ThumbPoints, is_same_thumb_point, no_poin
 use Rattle.thumbnails.specs.Packings.{thumb_bytes}
 use Rattle.thumbnails.specs.Scales.{thumb_point, view_of}
 
--- What is drawn so far: the points of the design and of the block, the last needle, whether the thread
--- is loose, and the bytes of the blocks that are done.
+-- What is drawn so far: the points of the design and of the block, the last needle, whether the
+-- thread is loose, and the bytes of the blocks that are done.
 pub record Sketched : Type 0 where
   pub whole : ThumbPoints
   pub block : ThumbPoints

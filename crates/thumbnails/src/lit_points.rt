@@ -1,6 +1,6 @@
 ghost use Rattle.std.specs.HashSet.{contains};
 ghost use Rattle.std.specs.Prelude.{◌≡◌, ◌*◌, ◌≤◌, ◌<◌, ◌^◌, OnOk};
-ghost use Rattle.thumbnails.specs.LitPoints.{between as between_steps, difference as difference_of, is_same_thumb_point, line_length as length_of_line, line_point as point_of_line, with_thumb_line, with_thumb_point};
+ghost use Rattle.thumbnails.specs.LitPoints.{between_steps, difference_of, is_same_thumb_point, length_of_line, point_of_line, with_thumb_line, with_thumb_point};
 
 use design_model::Memory;
 use std::collections::HashSet;

@@ -1,6 +1,6 @@
 ghost use Rattle.design_model.specs.Extents.{extent_height, extent_width};
 ghost use Rattle.std.specs.Prelude.{◌≡◌, ◌≤◌, ◌<◌, ◌^◌};
-ghost use Rattle.thumbnails.specs.Scales.{full_length, least_point, place_of, points_before, shrunk as shrunk_to, thumb_point, view_of};
+ghost use Rattle.thumbnails.specs.Scales.{full_length, least_point, place_of, points_before, shrunk_to, thumb_point, view_of};
 
 use crate::lit_points::ThumbPoint;
 use design_model::{Extent, Point, height, width};

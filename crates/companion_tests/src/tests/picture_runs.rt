@@ -204,7 +204,10 @@ const PICTURES: [DrawnCase; 9] = [
     ),
     (
         &["a.rw", "a.cert", "a.svg", "size=68x10"],
-        &[b" width='68.0mm' height='10.0mm' viewBox='0,0,680,", b"</text>\n<text x='220' y='7'>scale 1 : 4.8</text>\n"],
+        &[
+            b" width='68.0mm' height='10.0mm' viewBox='0,0,680,",
+            b"</text>\n<text x='220' y='7'>scale 1 : 4.8</text>\n",
+        ],
     ),
     (
         &["a.rw", "a.cert", "a.svg"],

@@ -9,7 +9,8 @@ use Rattle.thumbnails.proofs.packing.put_thumbnail.Goals as goal
 pub loop-row-preserved : goal.loop-row-preserved
 loop-row-preserved c = record {
   most = omega (arith, c.loop-row-test.true);
-  rows = rows_next (contains is_same_thumb_point c.args.points.now) _ _ _ ROWS _ c.loop-row-test.true c.in_ok-put_row.ensures c.loop-row.invariant.rows;
+  rows = rows_next (contains is_same_thumb_point c.args.points.now) _ _ _ ROWS _ c.loop-row-test.true c.in_ok-put_row.ensures
+      c.loop-row.invariant.rows;
 }
 
 pub returns : goal.returns
