@@ -1,7 +1,7 @@
 -- Worked values of comments: which line each belongs to, and where it is written.
 use Rattle.std.proofs.Common.{◌≡◌, ℕ, true, false, List, [], ◌∷◌, ◌++◌, codes, refl}
 use Rattle.drawing_comments.specs.CommentedTexts.{comments_of, with_comments}
-use Rattle.drawing_comments.specs.MovedComments.{comments_of_parts, has_uncommented_lines}
+use Rattle.drawing_comments.specs.MovedComments.{comments_of_parts, has_no_line_comments}
 use Rattle.drawing_comments.specs.declared.text_comments.TextComments.{TextComments}
 
 -- a text line
@@ -40,7 +40,7 @@ pub known_parts : comments_of_parts (record found { lines = codes "#a" ∷ codes
 known_parts = refl
 
 -- one of several lines has a comment, or none has
-pub known_no_line_comments : (has_uncommented_lines found ≡ false)
-    × (has_uncommented_lines (record found { lines = [] ∷ codes "#b" ∷ [] }) ≡ false)
-    × (has_uncommented_lines (record found { lines = [] ∷ [] ∷ [] }) ≡ true)
+pub known_no_line_comments : (has_no_line_comments found ≡ false)
+    × (has_no_line_comments (record found { lines = [] ∷ codes "#b" ∷ [] }) ≡ false)
+    × (has_no_line_comments (record found { lines = [] ∷ [] ∷ [] }) ≡ true)
 known_no_line_comments = (refl, refl, refl)

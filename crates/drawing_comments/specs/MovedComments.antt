@@ -34,8 +34,8 @@ abbrev pub is_empty_comment : List ℕ → Bool
 is_empty_comment comment = length comment == 0
 
 -- No line of a text has a comment.
-abbrev pub has_uncommented_lines : TextComments → Bool
-has_uncommented_lines c = list_all is_empty_comment c.lines
+abbrev pub has_no_line_comments : TextComments → Bool
+has_no_line_comments c = list_all is_empty_comment c.lines
 
 -- The comments of parts are comments.
 abbrev pub PartsKeepComments : Type 0

@@ -1,5 +1,5 @@
 ghost use Rattle.drawing_comments.specs.CommentLaws.{AreTextComments};
-ghost use Rattle.drawing_comments.specs.MovedComments.{block_comments, comments_of_parts, has_uncommented_lines, is_empty_comment, line_comments, part_comments, uncommented};
+ghost use Rattle.drawing_comments.specs.MovedComments.{block_comments, comments_of_parts, has_no_line_comments, is_empty_comment, line_comments, part_comments, uncommented};
 ghost use Rattle.std.specs.Prelude.{◌≡◌, ◌++◌, IfOk, OnOk};
 
 use crate::text_comments::TextComments;
@@ -43,7 +43,7 @@ fn spread(alloc: Global, comments: &TextComments, counts: &[usize]) -> Result<Te
 
 /// Returns whether no line of a text has a comment.
 pub fn has_no_line_comments(comments: &TextComments) -> bool
-    ensures { result ≡ has_uncommented_lines comments.now }
+    ensures { result ≡ has_no_line_comments comments.now }
 {
     let lines = comments.lines.as_slice();
     lines.iter().all(|comment| is_no_comment(comment))
