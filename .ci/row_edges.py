@@ -244,7 +244,7 @@ def read_pipes(here):
         os.remove(here.at(name))
     here.has("b.lst", LINE_LIST)
     here.has("c.lst", LINE_LIST)
-    here.has("d.rw", SPACED)
+    here.has("d.rw", SPACED.replace("color", "# a comment\n" * 20000 + "color"))
     # standard input by a link with the right ending, as a pipe and as a file
     for name, content, step in (("in.rw", long_drawing, done("stitch migrate in.rw g.rw", "lines 1 pieces 1 cost 4\n")),
                                 ("in.exp", CONVERTED, done("stitch convert in.exp g.lst", REPORT))):
@@ -388,13 +388,13 @@ def little_memory(here):
             ("stitch_picture big.rw b.svg", ["b.svg"]), ("stitch_drawing edit big.rw b.rw turn=1", ["b.rw"])):
         lacking = (4, b"", f"{words.split()[0]}: out of memory\n".encode(), [b"old"] * len(outputs))
         endings = []
-        for kibibytes in range(512, 16385, 512):
+        for kibibytes in range(512, 65537, 512):
             for name in outputs:
                 here.write(name, "old")
             status, out, err = here.rows.result(here.folder, here.rows.arguments(words), preexec_fn=with_memory(kibibytes))
             here.rows.run += 1
             endings.append((status, out, err, [here.read(name) for name in outputs]))
         most = endings[-1]
-        here.tells(f"{words}: it is done with 16 MiB", most[0] == 0 and b"old" not in most[3])
+        here.tells(f"{words}: it is done with 64 MiB", most[0] == 0 and b"old" not in most[3])
         here.tells(f"{words}: it is done, or memory lacks", all(ending in (most, lacking) for ending in endings))
         here.tells(f"{words}: memory lacks with 512 KiB", endings[0] == lacking)

@@ -194,7 +194,10 @@ EXCEPTIONS = {
     "design_commands/thread_texts.rt": ["thread {thread} ", "block {number} "],
     # words of the arguments
     "drawing_commands/drawing_edit_words.rt": ["centre", "step", "order", "start", "end"],
-    "picture_commands/words.rt": [".svg", "--help", "--version", "plain", "ffffff"],
+    "picture_commands/words.rt": ["--help", "--version"],
+    "picture_commands/cloth_words.rt": ["plain", "ffffff"],
+    "picture_commands/picture_names.rt": [".svg"],
+    "picture_commands/size_words.rt": ["size"],
     "drawing_commands/requests.rt": ["look", "snap", "cross", "--keep", "space", "free", "near", "edit", "--help", "--version"],
     "drawing_commands/space_words.rt": ["length", "leeway"],
     "design_commands/requests.rt": ["look", "pass", "edit", "compare", "threads", "--threads", "--help", "--version"],
