@@ -87,7 +87,7 @@ def star():
 
 def alike():
     """One line 1,024 times."""
-    return [[(10 * i, i % 2) for i in range(64)] for _ in range(drawings.LINES)]
+    return [[(0, 0), (50, 0)] for _ in range(drawings.LINES)]
 
 
 def worst():
@@ -99,7 +99,7 @@ def worst():
     yield "a weave of 512 lines by 512", 2, [weave()]
     yield "a tangle of 1,024 lines", 2, [tangle()]
     yield "1,024 lines on one line", 2, [nested()]
-    yield "1,024 random walks", 2, [walks()]
+    yield "1,024 random walks", 1, [walks()]
     yield "one line 1,024 times", 2, [alike()]
     yield "255 squares on one place, a block each", 2, [square] * 255
     yield "a star of 1,024 strokes", 2, [star()]
