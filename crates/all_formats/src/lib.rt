@@ -1,4 +1,13 @@
 //! The five formats of the programs, and the objects of them.
+//!
+//! ```
+//! use all_formats::StitchFormats;
+//! use format_traits::Format;
+//!
+//! let formats = StitchFormats::new(alloc)?;
+//! assert!(rt; formats.dst.ext() == "dst");
+//! assert_eq!(rt; formats.dst.limit(), 121);
+//! ```
 #![tactic(auto)]
 
 mod making;

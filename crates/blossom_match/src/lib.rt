@@ -1,5 +1,14 @@
 //! Minimum-weight perfect matchings of a table of distances, by the blossom algorithm of Edmonds. The moats
 //! of a matching are its dual solution: they prove that no perfect matching costs less.
+//!
+//! ```
+//! use blossom_match::{DistTable, match_all};
+//!
+//! let mut table = DistTable::new(alloc, 2)?;
+//! table.set(0, 1, 7);
+//! let matching = match_all(alloc, &table)?;
+//! assert_eq!(rt; matching.pairs.len(), 1);
+//! ```
 #![tactic(auto)]
 
 mod adjustment;

@@ -1,4 +1,13 @@
 //! The text of certificates: reads and prints it.
+//!
+//! ```
+//! use certificate_text::{print_cert, read_cert};
+//!
+//! let text = b"redwork-certificate 1\npiece 0\nwalk 1 2 -3\nend\n";
+//! let cert = read_cert(alloc, text).ok().ok_or("no certificate")?;
+//! assert_eq!(rt; cert.pieces.as_slice()[0].walk.len(), 3);
+//! assert!(rt; print_cert(alloc, &cert)?.as_slice() == text.as_slice());
+//! ```
 #![tactic(auto)]
 
 mod draft;

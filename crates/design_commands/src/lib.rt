@@ -1,4 +1,18 @@
 //! The commands of `stitch_design`: their arguments, their plans, what they print, and `run`.
+//!
+//! ```
+//! use design_commands::{Status, run_design};
+//! use outside_io::{MemSink, MemStore};
+//!
+//! let mut words = Vec::new(alloc);
+//! words.push(String::from_str(alloc, "threads")?)?;
+//! let mut store = MemStore::new(alloc);
+//! let mut out = MemSink::new(alloc, 10_000)?;
+//! let mut err = MemSink::new(alloc, 1_000)?;
+//! let status = run_design(alloc, &words, &mut store, &mut out, &mut err)?;
+//! assert!(rt; status == Status::Done);
+//! assert!(rt; out.taken().ends_with(b"\n"));
+//! ```
 #![tactic(auto)]
 
 mod commands;

@@ -1,5 +1,16 @@
 //! Embroidery designs: points, commands, the acts computed from them, lengths of lines. What all crates share: lists that grow, whole
 //! numbers in texts, the error of a lack of memory, the greatest length of a file, and lemmas on plain lists.
+//!
+//! ```
+//! use design_model::{Command, Design, Point, counts, extent, width};
+//!
+//! let mut design = Design::new(alloc);
+//! design.push(Command::Stitch(Point { x: -5, y: 0 }))?;
+//! design.push(Command::Stitch(Point { x: 20, y: 8 }))?;
+//! design.push(Command::Trim)?;
+//! assert_eq!(rt; counts(&design).needles, 2);
+//! assert_eq!(rt; width(extent(&design)), 25);
+//! ```
 #![tactic(auto)]
 
 mod act;

@@ -1,5 +1,16 @@
 //! The picture of a design: an SVG text that a browser shows. It has the stitches in the colours of their threads,
 //! with what is sewn again beside what was sewn before, and marks where pieces, threads, trims and stops are.
+//!
+//! ```
+//! use design_model::{Command, Design, Point};
+//! use design_picture::picture;
+//!
+//! let mut design = Design::new(alloc);
+//! design.push(Command::Stitch(Point { x: 0, y: 0 }))?;
+//! design.push(Command::Stitch(Point { x: 20, y: 0 }))?;
+//! let svg = picture(alloc, &design, None, None)?;
+//! assert!(rt; svg.as_slice().starts_with(b"<svg"));
+//! ```
 #![tactic(auto)]
 
 mod arrow_squares;

@@ -2,6 +2,18 @@
 //! meant: stitches that are too short or too long, floats, needles in one hole, threads that aren't tied, blocks without a
 //! needle, stops at which the frame moves. And the first difference of two designs: of their acts, or of the threads of
 //! their blocks.
+//!
+//! ```
+//! use design_model::{Command, Design, Point};
+//! use design_review::{ReviewLimits, review};
+//!
+//! let mut design = Design::new(alloc);
+//! design.push(Command::Stitch(Point { x: 0, y: 0 }))?;
+//! design.push(Command::Stitch(Point { x: 130, y: 0 }))?;
+//! let limits = ReviewLimits { short: 0, long: 121, float: 0, tie: 0, hole: 0 };
+//! // one place: the long stitch
+//! assert_eq!(rt; review(alloc, limits, &design)?.len(), 1);
+//! ```
 #![tactic(auto)]
 
 mod acts_compared;

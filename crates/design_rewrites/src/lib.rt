@@ -1,4 +1,15 @@
 //! Designs whose acts are rewritten one after another: what the result of such a rewrite is, and the one loop over the acts.
+//!
+//! ```
+//! use design_model::{Act, Design, Point};
+//! use design_rewrites::put_act;
+//!
+//! // a float to a needle, and the needle
+//! let mut design = Design::new(alloc);
+//! let act = Act::Needle { at: Point { x: 9, y: 9 }, float: true };
+//! assert!(rt; put_act(&mut design, act).is_ok());
+//! assert_eq!(rt; design.commands().len(), 2);
+//! ```
 #![tactic(auto)]
 
 mod act_edit;

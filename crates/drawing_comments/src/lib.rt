@@ -1,4 +1,12 @@
 //! The comments of a drawing text: which block or line each belongs to, and a text with comments before its lines.
+//!
+//! ```
+//! use drawing_comments::{find_comments, has_no_line_comments};
+//!
+//! let comments = find_comments(alloc, b"redwork 3\ncolor 5\n# a stem\nline 0 0 40 40\n")?;
+//! assert!(rt; !has_no_line_comments(&comments));
+//! assert!(rt; comments.lines.as_slice()[0].as_slice() == b"# a stem\n".as_slice());
+//! ```
 #![tactic(auto)]
 
 mod finding;

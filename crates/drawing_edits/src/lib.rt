@@ -1,5 +1,17 @@
 //! Edits of a drawing: shifts, turns, mirrorings, centring, another longest step, starts and ends at points, and
 //! another order of the pieces.
+//!
+//! ```
+//! use design_edits::{Axis, Motion};
+//! use design_model::Point;
+//! use drawing_edits::{DrawingEdit, edit_drawing};
+//! use drawing_text::read_drawing;
+//!
+//! let text = b"redwork 3\ncolor 5\nline 0 0 50 0\n";
+//! let drawing = read_drawing(alloc, text).ok().ok_or("no drawing")?;
+//! let edited = edit_drawing(alloc, &drawing, DrawingEdit::Step(50)).ok().ok_or("refused")?;
+//! assert_eq!(rt; edited.step(), 50);
+//! ```
 #![tactic(auto)]
 
 mod drawing_edit;

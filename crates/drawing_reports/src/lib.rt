@@ -1,5 +1,17 @@
 //! Reports on drawings. That of `look`: its size, its pieces with their stitches, the places where lines should meet and don't,
 //! and the lines with short stitches; that of `free`: the best ends; the shortest and the longest stitch of lines.
+//!
+//! ```
+//! use drawing_reports::length_span;
+//! use drawing_text::read_drawing;
+//!
+//! let text = b"redwork 3\ncolor 5\nline 0 0 50 0 50 8\n";
+//! let drawing = read_drawing(alloc, text).ok().ok_or("no drawing")?;
+//! let span = length_span(drawing.lines());
+//! // in thousandths of a millimetre
+//! assert_eq!(rt; span.shortest, 800);
+//! assert_eq!(rt; span.longest, 5_000);
+//! ```
 #![tactic(auto)]
 
 mod free_texts;

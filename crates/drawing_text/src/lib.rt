@@ -1,5 +1,15 @@
 //! The text of drawings: reads the drawing that a text describes or its first fault, and prints the
 //! canonical text of a drawing.
+//!
+//! ```
+//! use drawing_text::{print_drawing, read_drawing};
+//!
+//! let text = b"redwork 3\ncolor 5\nline 0 0 50 0\n";
+//! let drawing = read_drawing(alloc, text).ok().ok_or("no drawing")?;
+//! assert_eq!(rt; drawing.step(), 25);
+//! // the canonical text has a label and a step
+//! assert!(rt; print_drawing(alloc, &drawing)?.len() > text.len());
+//! ```
 #![tactic(auto)]
 
 mod coordinate_words;

@@ -1,5 +1,12 @@
 //! The DST format: records of three bytes after a header of 512 bytes. The file's y points upwards, a
 //! design's downwards.
+//!
+//! ```
+//! use design_model::Point;
+//! use dst_codec::{decode_move, encode_move};
+//!
+//! assert!(rt; decode_move(encode_move(121, -3)) == Point { x: 121, y: -3 });
+//! ```
 #![tactic(auto)]
 
 mod bits;

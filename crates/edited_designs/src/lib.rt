@@ -1,4 +1,17 @@
 //! Edits of a design, one after another: what they make of it, and the arguments that they are written as.
+//!
+//! ```
+//! use design_model::{Command, Design, Point};
+//! use edited_designs::edit_by_arguments;
+//!
+//! let mut design = Design::new(alloc);
+//! design.push(Command::Stitch(Point { x: 0, y: 0 }))?;
+//! design.push(Command::Stitch(Point { x: 20, y: 0 }))?;
+//! let mut words = Vec::new(alloc);
+//! words.push(String::from_str(alloc, "scale=150")?)?;
+//! let edited = edit_by_arguments(alloc, design, &words).ok().ok_or("refused")?;
+//! assert!(rt; edited.commands()[1] == Command::Stitch(Point { x: 30, y: 0 }));
+//! ```
 #![tactic(auto)]
 
 mod applied;

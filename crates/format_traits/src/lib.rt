@@ -1,5 +1,16 @@
 //! The trait of stitch formats: what a format object reads and writes, and the laws that each of them keeps.
 //! Feeds, decoders, refusals, labels and the lookup of a format by the ending of a name are here too.
+//!
+//! ```
+//! use design_model::{Act, Point};
+//! use format_traits::{EncoderState, hops, move_between};
+//!
+//! // a move of 25 by 4 takes three hops of at most 12
+//! let step = move_between(Point { x: 1, y: 1 }, Point { x: 26, y: 5 });
+//! assert_eq!(rt; hops(12, step), 3);
+//! let act = Act::Needle { at: Point { x: 26, y: 5 }, float: false };
+//! assert!(rt; EncoderState::new().after(12, act).place == Point { x: 26, y: 5 });
+//! ```
 #![tactic(auto)]
 
 mod act_writing;

@@ -1,5 +1,19 @@
 //! Drawings of lines in colour blocks of one thread each: their limits, how they are made and joined, the needle points
 //! of their lines, their pieces as graphs, walks over them as stitches, and the starts and ends of walks.
+//!
+//! ```
+//! use design_model::{Items, Point};
+//! use line_graph::{DrawingMaker, drawing_cost, pieces};
+//!
+//! let mut maker = DrawingMaker::new(alloc, b"A", 25);
+//! maker.add_block(5).ok().ok_or("no block")?;
+//! let mut line = Items::new(alloc);
+//! line.append(&[Point { x: 0, y: 0 }, Point { x: 50, y: 0 }])?;
+//! maker.add_line(line).ok().ok_or("no line")?;
+//! let drawing = maker.finish().ok().ok_or("no drawing")?;
+//! assert_eq!(rt; drawing_cost(&drawing), 2);
+//! assert_eq!(rt; pieces(alloc, &drawing)?.len(), 1);
+//! ```
 #![tactic(auto)]
 
 mod chosen_spots;

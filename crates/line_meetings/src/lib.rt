@@ -1,5 +1,15 @@
 //! Where lines of a block should meet and don't: points that nearly meet, points beside segments, crossings,
 //! segments that share more than a point, and segments that are drawn again.
+//!
+//! ```
+//! use drawing_text::read_drawing;
+//! use line_meetings::{MeetingKind, find_meetings};
+//!
+//! let text = b"redwork 3\ncolor 5\nline 0 0 40 40\nline 0 40 40 0\n";
+//! let drawing = read_drawing(alloc, text).ok().ok_or("no drawing")?;
+//! let found = find_meetings(alloc, drawing.lines(), 2)?;
+//! assert!(rt; found.as_slice()[0].kind == MeetingKind::Crossing);
+//! ```
 #![tactic(auto)]
 
 mod bounds;

@@ -1,5 +1,18 @@
 //! Lines in colour blocks, and the sections that they are cut into at points that their block lists more
 //! than once.
+//!
+//! ```
+//! use design_model::{Items, Point};
+//! use line_sections::{Line, sections};
+//!
+//! // the long line is cut where the short one begins
+//! let mut long = Items::new(alloc);
+//! long.append(&[Point { x: 0, y: 0 }, Point { x: 50, y: 0 }, Point { x: 99, y: 0 }])?;
+//! let mut short = Items::new(alloc);
+//! short.append(&[Point { x: 50, y: 0 }, Point { x: 50, y: 50 }])?;
+//! let lines = [Line::new(0, long), Line::new(0, short)];
+//! assert_eq!(rt; sections(alloc, &lines)?.len(), 3);
+//! ```
 #![tactic(auto)]
 
 mod cut_lines;

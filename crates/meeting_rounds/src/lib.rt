@@ -1,5 +1,15 @@
 //! Lines that list their meetings: in rounds, points become one that nearly meet, and points are put into
 //! segments.
+//!
+//! ```
+//! use drawing_text::read_drawing;
+//! use meeting_rounds::{lines_of, tracked};
+//!
+//! let text = b"redwork 3\ncolor 5\nline 0 0 40 40\n";
+//! let drawing = read_drawing(alloc, text).ok().ok_or("no drawing")?;
+//! let lines = tracked(alloc, drawing.lines())?;
+//! assert_eq!(rt; lines_of(alloc, &lines)?[0].points().len(), 2);
+//! ```
 #![tactic(auto)]
 
 mod acts;

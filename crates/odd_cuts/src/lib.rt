@@ -1,4 +1,17 @@
 //! Packings of odd cuts, which prove walks least; certificates that contain them; and the checks of both.
+//!
+//! ```
+//! use drawing_text::read_drawing;
+//! use line_graph::{Pass, pieces};
+//! use odd_cuts::check_walk;
+//!
+//! let text = b"redwork 3\ncolor 5\nline 0 0 50 0\n";
+//! let drawing = read_drawing(alloc, text).ok().ok_or("no drawing")?;
+//! let pieces = pieces(alloc, &drawing)?;
+//! // there and back
+//! let walk = [Pass { line: 0, back: false }, Pass { line: 0, back: true }];
+//! assert!(rt; check_walk(&pieces.as_slice()[0], &walk) == Ok(4));
+//! ```
 #![tactic(auto)]
 
 mod certificate;

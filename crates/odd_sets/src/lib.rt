@@ -1,5 +1,14 @@
 //! Odd sets of vertices in a slab, with their distances: blossoms, matches and the branches of a tree, and how
 //! sets become one blossom or come out of one.
+//!
+//! ```
+//! use odd_sets::{DistTable, has};
+//!
+//! let mut table = DistTable::new(alloc, 4)?;
+//! table.set(0, 3, 7);
+//! assert_eq!(rt; table.get(3, 0), 7);
+//! assert!(rt; has(&[4, 1, 3], 1));
+//! ```
 #![tactic(auto)]
 
 mod blossom;

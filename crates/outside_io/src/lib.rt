@@ -1,5 +1,15 @@
 //! The outside of the program: stores of named files and sinks of bytes, as traits, in memory and real.
 //! Entire files are read and written here.
+//!
+//! ```
+//! use outside_io::{MemStore, read_whole, write_whole};
+//!
+//! let mut store = MemStore::new(alloc);
+//! store.prepare("out.lst", 100)?;
+//! assert!(rt; write_whole(&mut store, "out.lst", b"stitches").is_ok());
+//! let bytes = read_whole(alloc, &mut store, "out.lst", 100).ok().ok_or("no file")?;
+//! assert!(rt; bytes.as_slice() == b"stitches".as_slice());
+//! ```
 #![tactic(auto)]
 
 mod arguments;

@@ -1,4 +1,15 @@
 //! The formats PEC and PES: files whose design is in a PEC block.
+//!
+//! ```
+//! use design_model::{Command, Design, Point};
+//! use format_traits::Format;
+//! use pes_codec::Pes;
+//!
+//! let mut design = Design::new(alloc);
+//! design.push(Command::Stitch(Point { x: 3, y: 4 }))?;
+//! let file = Pes::new(alloc).encode(alloc, &design).ok().ok_or("refused")?;
+//! assert!(rt; file.as_slice().starts_with(b"#PES0001"));
+//! ```
 #![tactic(auto)]
 
 mod file_codec;

@@ -1,5 +1,15 @@
 //! What pictures are made of: SVG texts in parts, paths and marks, the colours and names of threads, and the
 //! sheet that a picture is drawn on.
+//!
+//! ```
+//! use design_model::{Bytes, Point};
+//! use picture_parts::{Part, put, thread_name};
+//!
+//! let mut text = Bytes::new(alloc);
+//! put(&mut text, b"<path d='M@h@'/>", &[Part::At(Point { x: 3, y: 4 }), Part::Number(9)])?;
+//! assert!(rt; text.as_slice() == b"<path d='M3,4h9'/>".as_slice());
+//! assert!(rt; thread_name(5) == b"Red".as_slice());
+//! ```
 #![tactic(auto)]
 
 mod again_colours;

@@ -1,5 +1,15 @@
 //! The input files of all programs: bytes, designs, drawings and certificates. A file that is not read, or that is not
 //! what it should be, is a failure with the text about its first fault.
+//!
+//! ```
+//! use outside_io::MemStore;
+//! use program_inputs::drawing_in;
+//!
+//! let mut store = MemStore::new(alloc);
+//! store.put_file("a.rw", b"redwork 3\ncolor 5\nline 0 0 50 0\n")?;
+//! let drawing = drawing_in(alloc, &mut store, "a.rw").ok().ok_or("no drawing")?;
+//! assert_eq!(rt; drawing.line_count(), 1);
+//! ```
 #![tactic(auto)]
 
 mod certificate_files;

@@ -1,5 +1,13 @@
 //! The texts about designs and drawings that the programs print: reports, the text of each refusal, the usage text of
 //! `stitch`, and what the programs beside it say of an argument that isn't understood.
+//!
+//! ```
+//! use line_graph::DrawKind;
+//! use program_texts::{kind_text, version_text};
+//!
+//! assert!(rt; kind_text(DrawKind::NoJunction) == "not a junction");
+//! assert!(rt; version_text(b"stitch_design").starts_with(b"stitch_design "));
+//! ```
 #![tactic(auto)]
 
 mod companion_usage;

@@ -1,5 +1,15 @@
 //! The formats whose files are records after a header: the decoder of their records, and the encoder of acts.
 //! A format of its own defines its header and the bytes of its records.
+//!
+//! ```
+//! use design_model::Point;
+//! use record_formats::{moved, part_move, signed};
+//!
+//! // the last of three parts of a move, counted from 0
+//! assert!(rt; part_move(Point { x: 25, y: 4 }, 3, 2) == Point { x: 9, y: 2 });
+//! assert!(rt; moved(Point { x: 1, y: 1 }, Point { x: 25, y: 4 }) == Point { x: 26, y: 5 });
+//! assert_eq!(rt; signed(128, 250), -6);
+//! ```
 #![tactic(auto)]
 
 mod act_writing;

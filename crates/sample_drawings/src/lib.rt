@@ -1,4 +1,11 @@
 //! Sample drawings: for each number a grid of lines, between junctions that are moved at random.
+//!
+//! ```
+//! use sample_drawings::sample_drawing;
+//!
+//! let drawing = sample_drawing(alloc, 5)?;
+//! assert_eq!(rt; drawing.block_count(), 1);
+//! ```
 #![tactic(auto)]
 
 mod draws;

@@ -1,5 +1,18 @@
 //! Edits of what a design sews: threads tied and bared, long floats cut, short trims carried over, near needles left out,
 //! stitches sewn there and back, and designs scaled and centred.
+//!
+//! ```
+//! use design_model::{Command, Design, Point};
+//! use sewing_edits::{bare, tie};
+//!
+//! let mut design = Design::new(alloc);
+//! for x in [0, 20, 40] {
+//!     design.push(Command::Stitch(Point { x, y: 0 }))?;
+//! }
+//! let tied = tie(alloc, &design, 6).ok().ok_or("refused")?;
+//! assert!(rt; tied.commands().len() > 3);
+//! assert!(rt; bare(alloc, &tied).ok().ok_or("refused")?.commands() == design.commands());
+//! ```
 #![tactic(auto)]
 
 mod bare_threads;

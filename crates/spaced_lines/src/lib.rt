@@ -1,4 +1,15 @@
 //! Spaced lines of drawings: the fewest and most even stitches that stand for the points, and the sections keep their ends.
+//!
+//! ```
+//! use drawing_text::read_lines;
+//! use spaced_lines::{SpacingLimits, space};
+//!
+//! let text = b"redwork 3\ncolor 5\nline 0 0 6 0 12 1 18 1 24 1 30 2 36 3 42 4 48 5\n";
+//! let read = read_lines(alloc, text).ok().ok_or("no drawing")?;
+//! let limits = SpacingLimits { length: None, leeway: None };
+//! let spaced = space(alloc, limits, &read.drawing, &[], &[]).ok().ok_or("refused")?;
+//! assert_eq!(rt; spaced.drawn.line_points(0).len(), 3);
+//! ```
 #![tactic(auto)]
 
 mod best;

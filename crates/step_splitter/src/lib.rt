@@ -1,5 +1,15 @@
 //! Straight segments of stitching, split into short enough steps, and designs whose acts are changed to
 //! suit a format.
+//!
+//! ```
+//! use design_model::Point;
+//! use step_splitter::split;
+//!
+//! // 60 tenths in stitches of at most 25: three of 20
+//! let points = split(alloc, Point { x: 0, y: 0 }, Point { x: 60, y: 0 }, 25)?;
+//! assert_eq!(rt; points.len(), 3);
+//! assert!(rt; points.as_slice()[0] == Point { x: 20, y: 0 });
+//! ```
 #![tactic(auto)]
 
 mod refit_state;

@@ -6,6 +6,15 @@
 //! accepts all commands in range; a text is read only where it is the list of some design. The reader of
 //! lists therefore judges the acts as a writer does, by the encoder state and the room of format_traits. A
 //! list that is fed in chunks has its own decoder, which takes it line by line.
+//!
+//! ```
+//! use format_traits::Format;
+//! use stitch_text::List;
+//!
+//! let list = b"stitch-list 1\nlabel [A]\nblock 5\nneedle 3 4\ntrim\nend\n";
+//! let read = List::new(alloc).decode(alloc, list).ok().ok_or("no list")?;
+//! assert_eq!(rt; read.design.commands().len(), 2);
+//! ```
 #![tactic(auto)]
 
 mod label_line;

@@ -1,5 +1,18 @@
 //! Traces a design: makes a drawing in which each link between two needle points is drawn once, in chains
 //! that become lines and are cut into sections.
+//!
+//! ```
+//! use design_model::{Command, Design, Point};
+//! use stitch_trace::trace;
+//!
+//! // a stitch and the stitch back are one line
+//! let mut design = Design::new(alloc);
+//! for x in [0, 20, 0] {
+//!     design.push(Command::Stitch(Point { x, y: 0 }))?;
+//! }
+//! let drawing = trace(alloc, &design).ok().ok_or("refused")?;
+//! assert_eq!(rt; drawing.line_count(), 1);
+//! ```
 #![tactic(auto)]
 
 mod chains;

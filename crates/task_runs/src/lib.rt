@@ -1,5 +1,13 @@
 //! Tasks that a program runs over files and streams in memory: the arguments and files of a run as bytes, and the reply with
 //! what the run left.
+//!
+//! ```
+//! use task_runs::{TaskFile, pack_reply, read_task};
+//!
+//! assert!(rt; read_task(alloc, &[]).is_err());
+//! let file = TaskFile { name: "a.rw", content: b"redwork 3\n" };
+//! assert!(rt; pack_reply(alloc, 0, b"", b"", &[file])?.len() > 10);
+//! ```
 #![tactic(auto)]
 
 mod changed_files;

@@ -1,4 +1,12 @@
 //! Values that tests of several crates make.
+//!
+//! ```
+//! use design_model::{Command, Point};
+//! use test_values::design_of;
+//!
+//! let design = design_of(alloc, &[Command::Stitch(Point { x: 3, y: 4 }), Command::Trim])?;
+//! assert_eq!(rt; design.commands().len(), 2);
+//! ```
 #![tactic(auto)]
 
 mod large_designs;

@@ -1,4 +1,14 @@
 //! Thumbnails of designs, as machines show them: 48 by 38 points for the entire design, then for each block.
+//!
+//! ```
+//! use design_model::{Command, Design, Point};
+//! use thumbnails::{ROWS, drawn_thumbnails};
+//!
+//! // of the design and of its one block: rows of 48 points, 8 in a byte
+//! let mut design = Design::new(alloc);
+//! design.push(Command::Stitch(Point { x: 3, y: 4 }))?;
+//! assert_eq!(rt; drawn_thumbnails(alloc, &design)?.len(), 2 * 6 * ROWS as usize);
+//! ```
 #![tactic(auto)]
 
 mod lit_points;
