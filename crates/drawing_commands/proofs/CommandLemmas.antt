@@ -1,7 +1,6 @@
 -- What is proved of each command: its plan decides, and the outputs of its products are the files that it writes.
 use Rattle.std.proofs.Common.{List, [], ◌∷◌, ℕ, Bool, true, false, Option, Ok, Err, Result}
-use Rattle.near_pieces.specs.NearDrawings.{drawn_with}
-use Rattle.drawing_commands.proofs.Names.{DrawingValue, stitch_drawing_after, BadEdit, drawing_edit_read, edited_plan, edits_applied, look_read, DrawingOrder, editing, space_made, space_read, IsSoundPlan, accepts_sound, ends, named, parses_sound, program_sound, refuses_sound, SpacedDrawing, drawing_outputs_of, drawing_plan_of, IsEdited, IsLook, looking, spacing, telling, IsSpaceProduct, freeing, free_made, free_read, IsFreeProduct, lines_joined, JoinedLines, nearing, near_made, near_read, IsNearProduct, MetDrawing, IsMeetProduct, meet_made, met_of, meet_read, meeting}
+use Rattle.drawing_commands.proofs.Names.{DrawingValue, stitch_drawing_after, BadEdit, drawing_edit_read, edited_plan, edits_applied, look_read, DrawingOrder, editing, space_made, space_read, IsSoundPlan, accepts_sound, ends, named, parses_sound, program_sound, refuses_sound, SpacedDrawing, drawing_outputs_of, drawing_plan_of, IsEdited, IsLook, looking, spacing, telling, IsSpaceProduct, freeing, free_made, free_read, IsFreeProduct, lines_joined, JoinedLines, nearing, near_read, IsNearProduct, MetDrawing, IsMeetProduct, meet_made, met_of, meet_read, meeting}
 use Rattle.drawing_commands.specs.declared.text_reading.TextRead.{TextRead}
 use Rattle.drawing_commands.specs.TextsRead.{text_read}
 use Rattle.drawing_comments.specs.declared.text_comments.TextComments.{TextComments}
@@ -69,14 +68,9 @@ order_sound (freeing order) = parses_sound (order.output ∷ []) order.input tex
         (λ product is. named product _ is.written.made)
     made c (Err kind) = refuses_sound (order.output ∷ []) _
 order_sound (nearing order) = parses_sound (order.output ∷ []) order.input text_read (near_read order)
-    (λ text. kept_sound (order.output ∷ []) order.input text.lines.drawing _ (made text
-    (drawn_with text.lines.drawing text.lines.drawing.lines text.lines.drawing.starts)))
+    (λ text. kept_sound (order.output ∷ []) order.input text.lines.drawing _
+    (accepts_sound (order.output ∷ []) (IsNearProduct order.output text) (λ product is. named product _ is.written.made)))
     (λ fault. refuses_sound (order.output ∷ []) _)
-  where
-    made : (text : TextRead) (said : Result DrawingValue DrawKind) → IsSoundPlan (order.output ∷ []) (near_made order text said)
-    made text (Ok before) = accepts_sound (order.output ∷ []) (IsNearProduct order.output text before)
-        (λ product is. named product _ is.written.made)
-    made text (Err kind) = refuses_sound (order.output ∷ []) _
 order_sound (editing order) = parses_sound (order.output ∷ []) order.input text_read (drawing_edit_read order)
     (λ text. kept_sound (order.output ∷ []) order.input text.lines.drawing _
     (made text (edits_applied 1 order.edits text.lines.drawing)))

@@ -10,4 +10,5 @@ mod EditFacts
 mod EditCommentFacts
 mod MistakeFacts
 mod ProductFacts
+mod PlanFacts
 pub mod VersionOneLemmas

@@ -11,11 +11,11 @@ pub use Rattle.drawing_commands.specs.DrawingEditing.{drawing_edit_read, edit_fa
 pub use Rattle.drawing_commands.specs.EditComments.{comments_of_edits, drawing_ordered_alone, drawing_with_order}
 pub use Rattle.drawing_commands.specs.EditComments.{orders_from, orders_pieces}
 pub use Rattle.drawing_commands.specs.FreeOrders.{IsFreeProduct, free_made, free_order, free_read}
-pub use Rattle.drawing_commands.specs.NearFiles.{IsNearProduct, near_file_order, near_made, near_read}
+pub use Rattle.drawing_commands.specs.NearFiles.{IsNearProduct, near_file_order, near_read}
 pub use Rattle.drawing_commands.specs.Looks.{IsLook, look_order, look_read}
 pub use Rattle.drawing_commands.specs.MeetOrders.{IsMeetProduct, cross_order, meet_made, meet_read, snap_order}
 pub use Rattle.drawing_commands.specs.Requests.{DrawingOrder, editing, freeing, looking, meeting, nearing, spacing, telling}
-pub use Rattle.drawing_commands.specs.SpaceOrders.{IsSpaceProduct, space_made, space_order, space_read, space_report}
+pub use Rattle.drawing_commands.specs.SpaceOrders.{IsSpaceProduct, space_made, space_order, space_read}
 pub use Rattle.drawing_commands.specs.declared.bad_edit.BadEdit.{BadEdit}
 pub use Rattle.drawing_edits.specs.declared.drawing_edit.DrawingEdit.{DrawingEdit}
 pub use Rattle.line_graph.specs.Drawings.{DrawingValue}

@@ -1,9 +1,10 @@
 -- What the products of `snap`, `cross` and `space` state: each part needs a field of its own.
 use Rattle.std.proofs.Common.{◌≡◌, List, ℕ, Ok, length}
-use Rattle.drawing_commands.proofs.Names.{DrawingValue, MetDrawing, drawing_of, SpacedDrawing, IsMeetProduct, IsSpaceProduct, space_report}
+use Rattle.drawing_commands.proofs.Names.{DrawingValue, MetDrawing, drawing_of, SpacedDrawing, IsMeetProduct, IsSpaceProduct}
 use Rattle.drawing_comments.specs.CommentLaws.{spoken_lines}
 use Rattle.drawing_comments.specs.MovedComments.{comments_of_parts}
 use Rattle.drawing_comments.specs.declared.text_comments.TextComments.{TextComments}
+use Rattle.drawing_reports.specs.SpaceTexts.{space_report}
 use Rattle.drawing_text.specs.DrawnTexts.{drawing_as_drawn}
 use Rattle.line_graph.specs.declared.piece.Piece.{Piece}
 use Rattle.line_graph.specs.PiecesOfDrawings.{ArePiecesOf}

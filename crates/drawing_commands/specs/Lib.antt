@@ -9,9 +9,8 @@ pub mod FaultTexts
 pub mod Looks
 pub mod WholeProducts
 pub mod CutProducts
-pub mod MeetTexts
+pub mod MeetFaults
 pub mod MeetOrders
-pub mod SpaceTexts
 pub mod TextsRead
 pub mod SpaceOrders
 pub mod VersionOne

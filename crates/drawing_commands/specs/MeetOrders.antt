@@ -22,7 +22,8 @@ use Rattle.drawing_commands.specs.VersionOne.{plan_if_kept}
 use Rattle.drawing_commands.specs.WholeProducts.{IsWholeProduct}
 use Rattle.drawing_commands.specs.declared.meeting.MeetReport.{MeetReport}
 use Rattle.drawing_commands.specs.declared.meeting.MeetReport.TheVariants as report
-use Rattle.drawing_commands.specs.MeetTexts.{cross_report, meet_fault_text, snap_report}
+use Rattle.drawing_reports.specs.MeetingTexts.{cross_report, snap_report}
+use Rattle.drawing_commands.specs.MeetFaults.{meet_fault_text}
 
 -- The order of `snap` or `cross`: the rule, the report, the drawing to read, and the file to write.
 pub record MeetOrder : Type 0 where

@@ -1,18 +1,15 @@
 -- The command `near`: the pieces of each block are sewn in an order with little travel. The drawing
 -- is written with its lines cut where they meet.
-use Rattle.std.specs.Prelude.{ℕ, List, ◌++◌, Result, Ok, Err, codes, decimal}
+use Rattle.std.specs.Prelude.{ℕ, List, ◌++◌, Result, codes, decimal}
 use Rattle.design_model.specs.TextLines.{newline}
 use Rattle.drawing_text.specs.declared.draw_fault.DrawFault.{DrawFault}
 use Rattle.drawing_comments.specs.OrderedComments.{comments_of_sections}
 use Rattle.drawing_comments.specs.declared.text_comments.TextComments.{TextComments}
-use Rattle.line_graph.specs.declared.draw_kind.DrawKind.{DrawKind}
 use Rattle.line_graph.specs.Drawings.{DrawingValue}
 use Rattle.near_pieces.specs.declared.near_drawing.NearDrawing.{NearDrawing}
-use Rattle.near_pieces.specs.NearDrawings.{IsNear, drawn_with}
-use Rattle.program_shell.specs.FileTexts.{text_about}
-use Rattle.program_shell.specs.Plans.{Plan, accepts, reads, refuses}
+use Rattle.near_pieces.specs.NearDrawings.{IsNear}
+use Rattle.program_shell.specs.Plans.{Plan, accepts, reads}
 use Rattle.program_shell.specs.Products.{ProductValue}
-use Rattle.program_texts.specs.DrawingTexts.{draw_kind_text}
 use Rattle.drawing_commands.specs.FaultTexts.{plan_after_reading}
 use Rattle.drawing_reports.specs.PlaceTexts.{tenths_text}
 use Rattle.drawing_commands.specs.declared.text_reading.TextRead.{TextRead}
@@ -42,22 +39,16 @@ near_comments text near = comments_of_sections text.comments text.lines.drawn.dr
     text.lines.drawing.lines near.lines
 
 -- The product of `near`: the near drawing, written with its lines cut, and the report.
-pub record IsNearProduct (output : List ℕ) (text : TextRead) (before : DrawingValue)
-    (product : ProductValue) : Type 0 where
+pub record IsNearProduct (output : List ℕ) (text : TextRead) (product : ProductValue) : Type 0 where
   pub found : NearDrawing
-  pub near : IsNear before found
+  pub near : IsNear text.lines.drawing found
   pub written : IsCutProduct output (near_comments text found.drawing) found.drawing
       (near_report found.before found.after found.pieces) product
 
--- The plan for a joined drawing: it is accepted, and a fault is refused.
-abbrev pub near_made : NearFileOrder → TextRead → Result DrawingValue DrawKind → Plan
-near_made order text (Ok before) = accepts (IsNearProduct order.output text before)
-near_made order text (Err why) = refuses (text_about order.input (draw_kind_text why))
-
--- The plan for a drawing: it is drawn again, if no line is cut.
+-- The plan for a drawing: it is accepted, if no line is cut.
 abbrev pub near_drawing : NearFileOrder → TextRead → Plan
-near_drawing order text = let d = text.lines.drawing in
-    plan_if_kept order.input d (near_made order text (drawn_with d d.lines d.starts))
+near_drawing order text =
+    plan_if_kept order.input text.lines.drawing (accepts (IsNearProduct order.output text))
 
 -- The plan for the result of reading the drawing: a fault is refused.
 abbrev pub near_read : NearFileOrder → Result TextRead DrawFault → Plan

@@ -1,6 +1,6 @@
 -- The command `space`: a drawing is written without the points for which one stitch stands. Its
 -- lines are written whole, as they were drawn, with its starts and ends. Costs count steps.
-use Rattle.std.specs.Prelude.{ℕ, List, ◌++◌, length, Result, Ok, Err}
+use Rattle.std.specs.Prelude.{ℕ, List, length, Result, Ok, Err}
 use Rattle.spaced_lines.specs.declared.spaced_drawing.SpacedDrawing.{SpacedDrawing}
 use Rattle.spaced_lines.specs.declared.spacing_rule.SpacingLimits.{SpacingLimits}
 use Rattle.spaced_lines.specs.SpacedDrawings.{space_of}
@@ -9,19 +9,17 @@ use Rattle.drawing_comments.specs.declared.text_comments.TextComments.{TextComme
 use Rattle.line_graph.specs.declared.draw_kind.DrawKind.{DrawKind}
 use Rattle.line_graph.specs.declared.piece.Piece.{Piece}
 use Rattle.line_graph.specs.Drawings.{DrawingValue}
-use Rattle.line_graph.specs.GrowingDrawings.{point_count, step_count}
 use Rattle.line_graph.specs.PiecesOfDrawings.{ArePiecesOf}
 use Rattle.program_shell.specs.FileTexts.{text_about}
 use Rattle.program_shell.specs.Plans.{Plan, accepts, reads, refuses}
 use Rattle.program_shell.specs.Products.{ProductValue}
 use Rattle.program_texts.specs.DrawingTexts.{draw_kind_text}
 use Rattle.drawing_commands.specs.FaultTexts.{plan_after_reading}
-use Rattle.drawing_reports.specs.LengthSpans.{span_of}
+use Rattle.drawing_reports.specs.SpaceTexts.{space_report}
 use Rattle.drawing_commands.specs.declared.text_reading.TextRead.{TextRead}
 use Rattle.drawing_commands.specs.TextsRead.{text_read}
 use Rattle.drawing_commands.specs.VersionOne.{plan_if_kept}
 use Rattle.drawing_commands.specs.WholeProducts.{IsWholeProduct}
-use Rattle.drawing_commands.specs.SpaceTexts.{count_change_text, piece_count_text, span_change_text}
 
 -- The order of `space`: what is given of the rule, the drawing to read, and the file to write.
 pub record SpaceOrder : Type 0 where
@@ -32,13 +30,6 @@ pub record SpaceOrder : Type 0 where
 -- The order of `space`, from its limits and its names.
 abbrev pub space_order : SpacingLimits → (input output : List ℕ) → SpaceOrder
 space_order limits input output = record { limits = limits; input = input; output = output }
-
--- The report of `space` on a drawing before and after.
-abbrev pub space_report : (before after : DrawingValue) → (pieces : ℕ) → List ℕ
-space_report before after pieces =
-    count_change_text (point_count before.lines) (point_count after.lines)
-    (step_count before.step before.lines) (step_count after.step after.lines)
-    ++ (span_change_text (span_of before.lines) (span_of after.lines) ++ piece_count_text pieces)
 
 -- The product of `space`: the spaced lines, written whole, and a report on them and on the lines
 -- before. The pieces are those that are sewn.

@@ -8,13 +8,14 @@ ghost use Rattle.program_shell.specs.Products.{product_value};
 ghost use Rattle.program_shell.specs.StepOutcomes.{RunsPlan, RunsPurePlan};
 ghost use Rattle.std.specs.Prelude.{◌≡◌, ◌≤◌, IfOk};
 
-use crate::meet_texts::{describe_cross, describe_snap, meet_failure};
+use crate::meet_failures::meet_failure;
 use crate::text_reading::{TextRead, text_in};
 use crate::version_one::{is_kept, not_kept};
 use crate::whole_files::whole_product;
 use command_words::FileNames;
 use design_model::{Bytes, Memory};
 use drawing_comments::{TextComments, spread_comments};
+use drawing_reports::{describe_cross, describe_snap};
 use line_graph::{Drawing, pieces};
 use met_drawings::{MeetingCounts, MeetingRule, MetDrawing, meet};
 use outside_io::Store;

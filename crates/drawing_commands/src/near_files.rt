@@ -1,22 +1,20 @@
 ghost use Rattle.command_words.specs.ValidNames.{AreFileNames};
-ghost use Rattle.drawing_commands.specs.NearFiles.{IsNearProduct, near_drawing, near_comments, near_file_order, near_made, near_plan, near_report};
+ghost use Rattle.drawing_commands.specs.NearFiles.{IsNearProduct, near_drawing, near_comments, near_file_order, near_plan, near_report};
 ghost use Rattle.drawing_comments.specs.CommentLaws.{AreTextComments};
 ghost use Rattle.line_graph.specs.EndOrders.{HasOrderedEnds};
 ghost use Rattle.line_graph.specs.JoinedDrawings.{is_joined};
-ghost use Rattle.near_pieces.specs.NearDrawings.{drawn_with};
 ghost use Rattle.program_shell.specs.Products.{product_value};
 ghost use Rattle.program_shell.specs.StepOutcomes.{RunsPlan, RunsPurePlan};
 ghost use Rattle.std.specs.Prelude.{◌≡◌, IfOk, string_bytes, true};
 
 use crate::edited_files::cut_product;
-use crate::space_texts::space_failure;
 use crate::text_reading::{TextRead, text_in};
 use crate::version_one::{is_kept, not_kept};
 use command_words::FileNames;
 use design_model::Memory;
 use drawing_comments::{TextComments, order_comments};
 use line_graph::Drawing;
-use near_pieces::{NearDrawing, draw_with, near};
+use near_pieces::{NearDrawing, near};
 use outside_io::Store;
 use program_shell::{Made, Product, text_bytes};
 use std::alloc::Global;
@@ -46,40 +44,17 @@ fn near_if_kept<'a>(alloc: Global, names: FileNames<'a>, text: &TextRead) -> Mad
     if !is_kept(alloc, &text.lines.drawing)? {
         return Err(not_kept(alloc, names.input));
     }
-    near_read_drawing(alloc, names, text)
+    let product = near_product(alloc, names.output, text)?;
+    Ok(product)
 }
 
-/// Draws a drawing again, and sews its pieces near each other.
-fn near_read_drawing<'a>(alloc: Global, names: FileNames<'a>, text: &TextRead) -> Made<'a>
-    requires names { AreFileNames names }
+fn near_product<'a>(alloc: Global, output: &'a str, text: &TextRead) -> Result<Product<'a>, Memory>
+    requires comments { AreTextComments text.now.comments }
+    requires joined { is_joined text.now.lines.drawing ≡ true }
     requires ordered { HasOrderedEnds text.now.lines.drawing }
-    requires comments { AreTextComments text.now.comments }
-    ensures { RunsPurePlan (near_made (near_file_order names.entry.input.now names.entry.output.now)
-        text.now (drawn_with text.now.lines.drawing text.now.lines.drawing.lines
-        text.now.lines.drawing.starts)) result }
+    ensures { IfOk result (λ product. IsNearProduct output.now text.now (product_value product)) }
 {
-    let drawing = &text.lines.drawing;
-    match draw_with(alloc, drawing, drawing.lines(), drawing.starts()) {
-        Ok(before) => {
-            let product = near_product(alloc, names.output, text, &before)?;
-            Ok(product)
-        }
-        Err(why) => Err(space_failure(alloc, names.input, why)),
-    }
-}
-
-fn near_product<'a>(
-    alloc: Global,
-    output: &'a str,
-    text: &TextRead,
-    before: &Drawing,
-) -> Result<Product<'a>, Memory>
-    requires comments { AreTextComments text.now.comments }
-    requires joined { is_joined before.now ≡ true }
-    requires ordered { HasOrderedEnds before.now }
-    ensures { IfOk result (λ product. IsNearProduct output.now text.now before.now (product_value product)) }
-{
-    let found = near(alloc, before)?;
+    let found = near(alloc, &text.lines.drawing)?;
     let report = describe_near(alloc, &found)?;
     let comments = comments_near(alloc, text, &found.drawing)?;
     let product = cut_product(alloc, output, &comments, &found.drawing, text_bytes(report))?;

@@ -7,13 +7,14 @@ ghost use Rattle.program_shell.specs.Products.{product_value};
 ghost use Rattle.program_shell.specs.StepOutcomes.{RunsPlan, RunsPurePlan};
 ghost use Rattle.std.specs.Prelude.{IfOk};
 
-use crate::space_texts::{describe_space, space_failure};
+use crate::space_failures::space_failure;
 use crate::text_reading::{TextRead, text_in};
 use crate::version_one::{is_kept, not_kept};
 use crate::whole_files::whole_product;
 use command_words::FileNames;
 use design_model::Memory;
 use drawing_comments::TextComments;
+use drawing_reports::describe_space;
 use line_graph::{Drawing, pieces};
 use outside_io::Store;
 use program_shell::{Made, Product};

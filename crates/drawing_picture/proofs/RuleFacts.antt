@@ -9,7 +9,8 @@ use Rattle.drawing_picture.specs.declared.labels.Label.{Label}
 use Rattle.drawing_picture.specs.declared.place_marks.PlaceMark.TheVariants as place
 use Rattle.drawing_picture.specs.DrawingCaptions.{after_threads, grid_words, labels_words, more_blocks, shown_blocks}
 use Rattle.drawing_picture.specs.Grids.{coordinate_text, grid_around_extent, grid_step, line_count_of}
-use Rattle.drawing_picture.specs.Labels.{label_row, labels_of_all, labels_of_side, middle_of_line}
+use Rattle.drawing_picture.specs.LabelOrders.{label_row, labels_of_side}
+use Rattle.drawing_picture.specs.Labels.{labels_of_all, middle_of_line}
 use Rattle.drawing_picture.specs.PlaceMarks.{count_of_mark, mark_number, mark_of_kind, place_shape, place_text, stretch_shape}
 use Rattle.line_meetings.specs.declared.meeting.Meeting.{Meeting}
 use Rattle.line_meetings.specs.declared.meeting.MeetingKind.{MeetingKind}

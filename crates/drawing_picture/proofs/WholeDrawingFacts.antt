@@ -8,7 +8,7 @@ use Rattle.design_picture.specs.Layouts.{below_head, below_start, title_text, to
 use Rattle.drawing_picture.specs.DrawingCaptions.{counts_text, grid_words, mark_keys, more_blocks, place_words, thread_end}
 use Rattle.drawing_picture.specs.DrawingPictures.{drawing_below, drawing_marks, drawing_with, picture_of_pieces}
 use Rattle.drawing_picture.specs.Grids.{column_start, coordinate_end, grid_start, row_start}
-use Rattle.drawing_picture.specs.Labels.{labels_start, left_label, right_label}
+use Rattle.drawing_picture.specs.LabelTexts.{labels_start, left_label, right_label}
 use Rattle.drawing_picture.specs.PlaceMarks.{place_shape, stretch_shape}
 use Rattle.line_meetings.specs.Telling.{told}
 use Rattle.picture_parts.specs.Colours.{colour_of_thread}

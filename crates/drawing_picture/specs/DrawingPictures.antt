@@ -18,7 +18,9 @@ use Rattle.drawing_picture.specs.declared.labels.Label.{Label}
 use Rattle.drawing_picture.specs.DrawingCaptions.{counts_text, drawing_words, grid_words, junction_dot, labels_words, legend_of, mark_keys, places_text, shown_blocks, spot_mark}
 use Rattle.drawing_picture.specs.Grids.{grid_around_extent, grid_text}
 use Rattle.drawing_picture.specs.JunctionMarks.{marks_of_pieces, odd_marks}
-use Rattle.drawing_picture.specs.Labels.{labels_of_all, labels_of_side, labels_text}
+use Rattle.drawing_picture.specs.LabelOrders.{labels_of_side}
+use Rattle.drawing_picture.specs.LabelTexts.{labels_text}
+use Rattle.drawing_picture.specs.Labels.{labels_of_all}
 use Rattle.drawing_picture.specs.LinePaths.{line_paths}
 use Rattle.drawing_picture.specs.PlaceMarks.{meeting_mark}
 use Rattle.line_graph.specs.Drawings.{DrawingValue}

@@ -5,7 +5,7 @@ use Rattle.drawing_picture.specs.declared.grid.Grid.{Grid}
 use Rattle.drawing_picture.specs.declared.label_order.Side.TheVariants as side
 use Rattle.drawing_picture.specs.declared.labels.Label.{Label}
 use Rattle.drawing_picture.specs.declared.labels.TheConstants.{LABEL_SPACE}
-use Rattle.drawing_picture.specs.Labels.{PlacedLabel, labels_of_side, placed_labels}
+use Rattle.drawing_picture.specs.LabelOrders.{PlacedLabel, labels_of_side, placed_labels}
 
 -- How many labels pass a test.
 abbrev pub passing : (Label → Bool) → List Label → ℕ

@@ -11,6 +11,8 @@ pub mod DrawingCaptions
 pub mod LinePaths
 pub mod Grids
 pub mod Labels
+pub mod LabelOrders
+pub mod LabelTexts
 pub mod LabelLaws
 pub mod PlaceMarks
 pub mod JunctionMarks

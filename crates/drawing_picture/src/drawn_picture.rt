@@ -50,90 +50,88 @@ pub fn picture_of_drawing(
     let marks = junction_marks(alloc, pieces.as_slice())?;
     let meetings = find_meetings(alloc, lines, MEETING_GAP)?;
     let labels = labels_of(alloc, pieces.as_slice(), lines)?;
-    let text = labelled(
-        alloc,
-        d,
-        size,
-        lines.len(),
-        pieces.len(),
-        marks.as_slice(),
-        meetings.as_slice(),
-        labels.as_slice(),
-    )?;
+    let shown = Shown {
+        drawing: d,
+        drawn: lines.len(),
+        pieces: pieces.len(),
+        marks: marks.as_slice(),
+        meetings: meetings.as_slice(),
+    };
+    let text = labelled(alloc, shown, size, labels.as_slice())?;
     Ok(text)
+}
+
+/// What a picture of a drawing shows: how many lines are drawn and how many pieces they make, and what is marked.
+#[derive(Clone, Copy)]
+struct Shown<'a> {
+    drawing: &'a Drawing,
+    drawn: usize,
+    pieces: usize,
+    marks: &'a [JunctionMark],
+    meetings: &'a [Meeting],
 }
 
 fn labelled(
     alloc: Global,
-    d: &Drawing,
+    shown: Shown<'_>,
     size: Option<PictureSize>,
-    drawn: usize,
-    pieces: usize,
-    marks: &[JunctionMark],
-    meetings: &[Meeting],
     labels: &[Label],
 ) -> Result<Bytes, Memory>
     ensures { IfOk result (λ text. text
-        ≡ labelled_on_sides d.now size drawn pieces marks.now meetings.now labels.now) }
+        ≡ labelled_on_sides shown.entry.drawing.now size shown.entry.drawn shown.entry.pieces
+        shown.entry.marks.now shown.entry.meetings.now labels.now) }
 {
-    let g = drawing_grid(d);
+    let g = drawing_grid(shown.drawing);
     let left = labels_on(alloc, Side::Left, g, labels)?;
     let right = labels_on(alloc, Side::Right, g, labels)?;
-    let text = on_sides(
-        alloc, d, size, drawn, pieces, marks, meetings, &left, &right,
-    )?;
+    let text = on_sides(alloc, shown, size, &left, &right)?;
     Ok(text)
 }
 
 fn on_sides(
     alloc: Global,
-    d: &Drawing,
+    shown: Shown<'_>,
     size: Option<PictureSize>,
-    drawn: usize,
-    pieces: usize,
-    marks: &[JunctionMark],
-    meetings: &[Meeting],
     left: &[Label],
     right: &[Label],
 ) -> Result<Bytes, Memory>
     ensures { IfOk result (λ text. text
-        ≡ drawing_labelled d.now size drawn pieces marks.now meetings.now left.now right.now) }
+        ≡ drawing_labelled shown.entry.drawing.now size shown.entry.drawn shown.entry.pieces
+        shown.entry.marks.now shown.entry.meetings.now left.now right.now) }
 {
     let area = drawing_area(
-        drawing_grid(d),
+        drawing_grid(shown.drawing),
         left.len().max(right.len()),
-        d.block_count(),
+        shown.drawing.block_count(),
         size,
     );
-    let text = in_area(alloc, d, area, drawn, pieces, marks, meetings, left, right)?;
+    let text = in_area(alloc, shown, area, left, right)?;
     Ok(text)
 }
 
 #[tactic(auto, unfolding(crate::specs::DrawingPictures::drawing_with))]
 fn in_area(
     alloc: Global,
-    d: &Drawing,
+    shown: Shown<'_>,
     area: Area,
-    drawn: usize,
-    pieces: usize,
-    marks: &[JunctionMark],
-    meetings: &[Meeting],
     left: &[Label],
     right: &[Label],
 ) -> Result<Bytes, Memory>
     requires side { area.side < 2 ^ 32 }
     requires above { area.above < 2 ^ 32 }
     ensures { IfOk result (λ text. text
-        ≡ drawing_with d.now area drawn pieces marks.now meetings.now left.now right.now) }
+        ≡ drawing_with shown.entry.drawing.now area shown.entry.drawn shown.entry.pieces
+        shown.entry.marks.now shown.entry.meetings.now left.now right.now) }
 {
+    let d = shown.drawing;
     let g = drawing_grid(d);
     let mut text = Bytes::new(alloc);
     put_drawing_top(&mut text, d, area)?;
     put_grid(&mut text, g)?;
     put_line_paths(&mut text, d.threads(), d.lines())?;
     put_labels(&mut text, g, left, right)?;
-    put_marks(&mut text, d, marks, meetings)?;
-    put_below(&mut text, d, area, g.step, drawn, pieces, marks, meetings)?;
+    put_marks(&mut text, d, shown.marks, shown.meetings)?;
+    put_below(&mut text, shown, area, g.step)?;
     put_foot(&mut text)?;
     Ok(text)
 }
@@ -221,27 +219,28 @@ fn put_marks(
 
 /// Appends the texts below the lines, of which so many are drawn, with a line of the legend for each block.
 #[tactic(auto, unfolding(crate::specs::DrawingPictures::drawing_below))]
-fn put_below(
-    text: &mut Bytes,
-    d: &Drawing,
-    area: Area,
-    step: u32,
-    drawn: usize,
-    pieces: usize,
-    marks: &[JunctionMark],
-    meetings: &[Meeting],
-) -> Result<(), Memory>
+fn put_below(text: &mut Bytes, shown: Shown<'_>, area: Area, step: u32) -> Result<(), Memory>
     requires side { area.side < 2 ^ 32 }
     requires above { area.above < 2 ^ 32 }
-    ensures { OnOk result (text.new
-        ≡ text.old ++ drawing_below d.now area step drawn pieces marks.now meetings.now) }
+    ensures { OnOk result (text.new ≡ text.old
+        ++ drawing_below shown.entry.drawing.now area step shown.entry.drawn shown.entry.pieces
+        shown.entry.marks.now shown.entry.meetings.now) }
 {
-    let odd = odd_count(marks);
+    let d = shown.drawing;
+    let pieces = shown.pieces;
+    let odd = odd_count(shown.marks);
     put_below_start(text, area, d.label(), lines_extent(d.lines()))?;
-    put_counts(text, pieces, marks.len(), odd, drawn, d.lines().len())?;
+    put_counts(
+        text,
+        pieces,
+        shown.marks.len(),
+        odd,
+        shown.drawn,
+        d.lines().len(),
+    )?;
     put_mark_keys(text)?;
-    put_places(text, meetings)?;
-    put_grid_words(text, step, labels_meaning(pieces, drawn))?;
+    put_places(text, shown.meetings)?;
+    put_grid_words(text, step, labels_meaning(pieces, shown.drawn))?;
     put_legend(text, d.threads())?;
     put_group_end(text)?;
     Ok(())

@@ -1,4 +1,5 @@
-ghost use Rattle.drawing_picture.specs.Labels.{label_prefix, label_row, label_text, labels_start, labels_text, left_label, right_label, side_text};
+ghost use Rattle.drawing_picture.specs.LabelOrders.{label_row};
+ghost use Rattle.drawing_picture.specs.LabelTexts.{label_prefix, label_text, labels_start, labels_text, left_label, right_label, side_text};
 ghost use Rattle.std.specs.Prelude.{◌≡◌, ◌++◌, ◌≤◌, OnOk, max};
 
 use crate::grid::Grid;
@@ -78,7 +79,7 @@ fn prefix_of(is_piece: bool) -> &'static [u8]
     if is_piece { b"P" } else { b"" }
 }
 
-#[tactic(auto, unfolding(crate::specs::Labels::left_label))]
+#[tactic(auto, unfolding(crate::specs::LabelTexts::left_label))]
 fn put_left(
     text: &mut Bytes,
     edge: u128,
@@ -108,7 +109,7 @@ fn put_left(
     )
 }
 
-#[tactic(auto, unfolding(crate::specs::Labels::right_label))]
+#[tactic(auto, unfolding(crate::specs::LabelTexts::right_label))]
 fn put_right(
     text: &mut Bytes,
     edge: u128,
@@ -138,7 +139,7 @@ fn put_right(
     )
 }
 
-#[tactic(auto, unfolding(crate::specs::Labels::labels_start))]
+#[tactic(auto, unfolding(crate::specs::LabelTexts::labels_start))]
 fn put_labels_start(text: &mut Bytes) -> Result<(), Memory>
     ensures { OnOk result (text.new ≡ text.old ++ labels_start) }
 {

@@ -1,4 +1,4 @@
-ghost use Rattle.drawing_picture.specs.Labels.{half_point_between, labelled_lines, labels_of_all, line_labels, middle_of_line, piece_labels, middle_of_segment};
+ghost use Rattle.drawing_picture.specs.Labels.{half_point_between, labelled_lines, labels_of_all, line_labels, middle_of_line, middle_of_segment, piece_labels};
 ghost use Rattle.line_graph.specs.PiecesOfDrawings.{graph_of};
 ghost use Rattle.std.specs.Prelude.{◌≡◌, ◌++◌, IfOk, OnOk, map, take};
 

@@ -10,7 +10,7 @@ use std::alloc::Global;
 
 /// Returns the joined drawing with the given lines and starts in place of those of a drawing; or the first fault of
 /// these; or `Memory`.
-pub fn draw_with(
+pub(crate) fn draw_with(
     alloc: Global,
     d: &Drawing,
     lines: &[Line],

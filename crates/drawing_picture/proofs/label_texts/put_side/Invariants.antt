@@ -1,5 +1,6 @@
 use Rattle.std.proofs.Common.{◌≡◌, ◌+◌, ◌*◌, ◌++◌, ◌≤◌, ◌^◌, length}
-use Rattle.drawing_picture.specs.Labels.{placed_labels, placed_texts, side_text}
+use Rattle.drawing_picture.specs.LabelOrders.{placed_labels}
+use Rattle.drawing_picture.specs.LabelTexts.{placed_texts, side_text}
 use Rattle.drawing_picture.proofs.label_texts.put_side.Given as goal
 
 -- the labels so far, and those that are left from the least row that is free

@@ -1,6 +1,6 @@
 use Rattle.std.proofs.Common.{◌≡◌, ◌+◌, length}
-use Rattle.drawing_commands.proofs.Names.{point_count}
-use Rattle.drawing_commands.proofs.space_texts.point_total.Given as goal
+use Rattle.line_graph.specs.GrowingDrawings.{point_count}
+use Rattle.drawing_reports.proofs.space_texts.point_total.Given as goal
 
 -- the points so far, and those of the lines that are left, are all
 abbrev pub invariant-loop-rest : goal.invariant-loop-rest

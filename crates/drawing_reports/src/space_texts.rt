@@ -1,20 +1,14 @@
-ghost use Rattle.drawing_commands.specs.SpaceOrders.{space_report};
-ghost use Rattle.drawing_commands.specs.SpaceTexts.{count_change_text, piece_count_text, span_change_text};
-ghost use Rattle.line_graph.specs.GrowingDrawings.{draw_is_out_of_memory, point_count};
-ghost use Rattle.program_shell.specs.FileTexts.{text_about};
-ghost use Rattle.program_shell.specs.StepOutcomes.{IsFaultFailure, IsRefusalWith};
-ghost use Rattle.program_texts.specs.DrawingTexts.{draw_kind_text};
+ghost use Rattle.drawing_reports.specs.SpaceTexts.{count_change_text, piece_count_text, space_report, span_change_text};
+ghost use Rattle.line_graph.specs.GrowingDrawings.{point_count};
 ghost use Rattle.std.specs.Prelude.{◌≡◌, IfOk, string_bytes};
 
+use crate::length_spans::{LengthSpan, length_span};
 use design_model::{Bytes, Memory};
-use drawing_reports::{LengthSpan, length_span};
-use line_graph::{DrawKind, Drawing, drawing_cost};
-use program_shell::{Failure, describe_file, refused, text_bytes};
-use program_texts::kind_text;
+use line_graph::{Drawing, drawing_cost};
 use std::alloc::Global;
 
 /// Returns the report of `space` on a drawing before and after.
-pub(crate) fn describe_space(
+pub fn describe_space(
     alloc: Global,
     before: &Drawing,
     after: &Drawing,
@@ -35,7 +29,8 @@ pub(crate) fn describe_space(
         length_span(after.lines()),
     )?;
     let piece_count = describe_pieces(alloc, pieces)?;
-    let mut text = text_bytes(counts);
+    let mut text = Bytes::new(alloc);
+    text.append(counts.as_bytes())?;
     text.append(spans.as_bytes())?;
     text.append(piece_count.as_bytes())?;
     Ok(text)
@@ -81,21 +76,4 @@ fn point_total(d: &Drawing) -> usize
         rest = after;
     }
     points
-}
-
-/// Returns the failure for a spaced drawing with a fault.
-pub(crate) fn space_failure<'a>(alloc: Global, name: &str, why: DrawKind) -> Failure<'a>
-    ensures { IsFaultFailure (draw_is_out_of_memory why) (text_about name.now (draw_kind_text why)) result }
-{
-    match why {
-        DrawKind::Memory => Failure::Memory,
-        other => not_spaced(alloc, name, other),
-    }
-}
-
-/// Returns the refusal of a spaced drawing with a fault, or out of memory.
-fn not_spaced<'a>(alloc: Global, name: &str, why: DrawKind) -> Failure<'a>
-    ensures { IsRefusalWith (text_about name.now (draw_kind_text why)) result }
-{
-    refused(describe_file(alloc, name, kind_text(why)))
 }
