@@ -1,10 +1,11 @@
 -- Worked values of the picture of a drawing, by hand.
-use Rattle.std.proofs.Common.{◌≡◌, pos, negsuc, true, false, [], ◌∷◌, ◌++◌, Some, None, codes, refl}
+use Rattle.std.proofs.Common.{◌≡◌, pos, negsuc, true, false, [], ◌∷◌, ◌++◌, Some, None, codes, map, refl}
 use Rattle.std.specs.Fmt.{digits}
-use Rattle.drawing_picture.proofs.Names.{flat_map, junction_dot, thread_lines, marks_of_piece, odd_marks, line_paths, PieceValue, points_of_lines}
+use Rattle.drawing_picture.proofs.Names.{JunctionMark, flat_map, junction_dot, thread_lines, marks_of_piece, odd_marks, line_paths, PieceValue, points_of_lines}
 use Rattle.design_model.specs.Extents.{extent_of_points}
 use Rattle.design_picture.specs.Captions.{block_start}
 use Rattle.drawing_picture.specs.DrawingCaptions.{counts_text, thread_end}
+use Rattle.drawing_picture.specs.DrawnLaws.{MarksShowJunctions}
 use Rattle.picture_parts.specs.Colours.{colour_of_thread}
 use Rattle.picture_parts.specs.Marks.{mark_text, shape_at}
 use Rattle.picture_parts.specs.Parts.{around, filled}
@@ -64,3 +65,8 @@ pub known_threads : thread_lines 1 (5 ∷ []) ≡ codes "<g transform='translate
     ++ (codes "<text x='52'>thread 5</text><text class='small' x='165'>Red</text></g>" ++ 10 ∷ [])
 unfolding filled digits block_start thread_end colour_of_thread name_of_thread
 known_threads = refl
+
+-- Its marks are one for each junction, in order; both are odd.
+pub known_marks_law : MarksShowJunctions → (map (λ (mark : JunctionMark). mark.at) (marks_of_piece piece) ≡ at 0 ∷ at 20 ∷ [])
+    × (map (λ (mark : JunctionMark). mark.is_odd) (marks_of_piece piece) ≡ true ∷ true ∷ []) × (odd_marks (marks_of_piece piece) ≡ 2)
+known_marks_law law = let marks = law piece in (marks.each, marks.odd, marks.count)

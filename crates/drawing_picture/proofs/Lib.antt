@@ -11,5 +11,6 @@ mod GridLemmas
 mod LabelLemmas
 mod LabelLawLemmas
 mod RuleFacts
+mod LawFacts
 mod WholeDrawingFacts
 mod WholeProofFacts
