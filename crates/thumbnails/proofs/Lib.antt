@@ -1,6 +1,7 @@
 mod LitLemmas
 mod SketchLemmas
 mod ThumbnailFacts
+mod TableFacts
 mod TailLemmas
 mod EndLemmas
 mod LengthLemmas

@@ -76,7 +76,7 @@ end_row = 16 ∷ 0 ∷ 0 ∷ 0 ∷ 0 ∷ 8 ∷ []
 abbrev blank : ℕ → List ℕ
 blank rows = replicate (6 * rows) 0
 
--- The needle at 20 across and 10 down, in column 24 and row 14.
+-- The needle at 20 across and 10 down, in column 24 of the fifteenth row.
 abbrev single_row : List ℕ
 single_row = 0 ∷ 0 ∷ 0 ∷ 1 ∷ 0 ∷ 0 ∷ []
 

@@ -1,10 +1,15 @@
 -- The points that are lit: a straight line of points for each stitch.
-use Rattle.std.specs.Prelude.{ℕ, zero, suc, ◌+◌, ◌-◌, ◌*◌, ◌/◌, ◌==◌, ◌&&◌, Bool, true, false, max, min, if◌then◌else◌}
+use Rattle.std.specs.Prelude.{ℕ, zero, suc, ◌+◌, ◌-◌, ◌*◌, ◌/◌, ◌==◌, ◌&&◌, Bool, true, false, nat_lt, List, get_or, max, min, if◌then◌else◌}
+use Rattle.thumbnails.specs.declared.lit_points.TheConstants.{SIDE}
 use Rattle.thumbnails.specs.declared.lit_points.ThumbPoint.{ThumbPoint}
 
 -- Points, as the test whether a point is one of them.
 abbrev pub ThumbPoints : Type 0
 ThumbPoints = ThumbPoint → Bool
+
+-- The points that a table has, row by row.
+abbrev pub points_in_cells : List Bool → ThumbPoints
+points_in_cells cells p = nat_lt p.column SIDE && get_or cells (p.row * SIDE + p.column) false
 
 -- No point.
 abbrev pub no_points : ThumbPoints
@@ -27,9 +32,10 @@ difference_of a b = max a b - min a b
 abbrev pub length_of_line : ThumbPoint → ThumbPoint → ℕ
 length_of_line a b = max (difference_of a.column b.column) (difference_of a.row b.row)
 
--- The coordinate after some of the steps from one to another, rounded to the nearest.
+-- The coordinate after some of the steps from one to another, rounded to the nearest, and within the
+-- thumbnail.
 abbrev pub between_steps : (steps step a b : ℕ) → ℕ
-between_steps steps step a b = if steps == 0 then a
+between_steps steps step a b = if steps == 0 then min a 47
     else min ((a * (steps - step) + b * step + steps / 2) / steps) 47
 
 -- The point after some of the steps of a line.

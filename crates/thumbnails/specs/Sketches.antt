@@ -2,7 +2,6 @@
 -- straight lines of points; a needle to which the thread is loose, or that a jump leads to, is one
 -- point.
 use Rattle.std.specs.Prelude.{ℕ, Bool, true, false, List, [], ◌∷◌, ◌++◌, if◌then◌else◌}
-use Rattle.std.specs.HashSet.{contains}
 use Rattle.design_model.specs.declared.act.Act.{Act}
 use Rattle.design_model.specs.declared.act.Act.TheVariants as act
 use Rattle.design_model.specs.declared.act.NumberedAct.{NumberedAct}
@@ -12,7 +11,7 @@ use Rattle.design_model.specs.Extents.{extent_of}
 use Rattle.thumbnails.specs.declared.lit_points.ThumbPoint.{ThumbPoint}
 use Rattle.thumbnails.specs.declared.scaling.View.{View}
 use Rattle.thumbnails.specs.declared.sketch.Sketch.{Sketch}
-use Rattle.thumbnails.specs.LitPoints.{ThumbPoints, is_same_thumb_point, no_points, with_thumb_line}
+use Rattle.thumbnails.specs.LitPoints.{ThumbPoints, no_points, points_in_cells, with_thumb_line}
 use Rattle.thumbnails.specs.Packings.{thumb_bytes}
 use Rattle.thumbnails.specs.Scales.{thumb_point, view_of}
 
@@ -25,11 +24,11 @@ pub record Sketched : Type 0 where
   pub loose : Bool
   pub done : List ℕ
 
--- What is drawn so far, as the sets of points have it.
+-- What is drawn so far, as the tables of points have it.
 abbrev pub sketch_by : Sketch → Sketched
 sketch_by sketch = record {
-  whole = contains is_same_thumb_point sketch.whole;
-  block = contains is_same_thumb_point sketch.block;
+  whole = points_in_cells sketch.whole;
+  block = points_in_cells sketch.block;
   place = sketch.place;
   loose = sketch.loose;
   done = sketch.done;

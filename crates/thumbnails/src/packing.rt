@@ -1,19 +1,17 @@
-ghost use Rattle.std.specs.HashSet.{contains};
 ghost use Rattle.std.specs.Prelude.{◌≡◌, ◌++◌, ◌≤◌, ◌<◌, OnOk};
-ghost use Rattle.thumbnails.specs.LitPoints.{is_same_thumb_point};
+ghost use Rattle.thumbnails.specs.LitPoints.{points_in_cells};
 ghost use Rattle.thumbnails.specs.Packings.{bit_at, byte_at, row_bytes, thumb_bytes};
 
-use crate::lit_points::ThumbPoint;
+use crate::lit_points::{LitPoints, ThumbPoint};
 use design_model::{Bytes, Memory};
-use std::collections::HashSet;
 
 /// The rows of a thumbnail.
 pub const ROWS: u32 = 38;
 
 /// Appends the bytes of a thumbnail with these points.
 #[tactic(auto, unfolding(crate::specs::Packings::thumb_bytes))]
-pub(crate) fn put_thumbnail(out: &mut Bytes, points: &HashSet<ThumbPoint>) -> Result<(), Memory>
-    ensures { OnOk result (out.new ≡ out.old ++ thumb_bytes (contains is_same_thumb_point points.now)) }
+pub(crate) fn put_thumbnail(out: &mut Bytes, points: &LitPoints) -> Result<(), Memory>
+    ensures { OnOk result (out.new ≡ out.old ++ thumb_bytes (points_in_cells points.now)) }
 {
     let mut row = 0;
     while row < ROWS {
@@ -23,8 +21,8 @@ pub(crate) fn put_thumbnail(out: &mut Bytes, points: &HashSet<ThumbPoint>) -> Re
     Ok(())
 }
 
-fn put_row(out: &mut Bytes, points: &HashSet<ThumbPoint>, row: u32) -> Result<(), Memory>
-    ensures { OnOk result (out.new ≡ out.old ++ row_bytes (contains is_same_thumb_point points.now) row) }
+fn put_row(out: &mut Bytes, points: &LitPoints, row: u32) -> Result<(), Memory>
+    ensures { OnOk result (out.new ≡ out.old ++ row_bytes (points_in_cells points.now) row) }
 {
     let bytes = [
         byte(points, 0, row),
@@ -39,9 +37,9 @@ fn put_row(out: &mut Bytes, points: &HashSet<ThumbPoint>, row: u32) -> Result<()
 }
 
 /// Returns the byte of eight points of a row, the first of which has that column.
-fn byte(points: &HashSet<ThumbPoint>, column: u32, row: u32) -> u8
+fn byte(points: &LitPoints, column: u32, row: u32) -> u8
     requires { column ≤ 40 }
-    ensures { result ≡ byte_at (contains is_same_thumb_point points.now) column row }
+    ensures { result ≡ byte_at (points_in_cells points.now) column row }
 {
     bit(points, column, row)
         + (2 * bit(points, column + 1, row)
@@ -53,11 +51,11 @@ fn byte(points: &HashSet<ThumbPoint>, column: u32, row: u32) -> u8
                                 + 128 * bit(points, column + 7, row)))))))
 }
 
-fn bit(points: &HashSet<ThumbPoint>, column: u32, row: u32) -> u8
-    ensures value { result ≡ bit_at (contains is_same_thumb_point points.now) column row }
+fn bit(points: &LitPoints, column: u32, row: u32) -> u8
+    ensures value { result ≡ bit_at (points_in_cells points.now) column row }
     ensures most { result < 2 }
 {
-    if points.contains(&ThumbPoint { column, row }) {
+    if points.has(ThumbPoint { column, row }) {
         return 1;
     }
     0

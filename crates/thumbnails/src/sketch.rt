@@ -1,25 +1,23 @@
 ghost use Rattle.design_model.specs.Acts.{acts_along};
 ghost use Rattle.design_model.specs.Commands.{is_command_in_range};
 ghost use Rattle.design_model.specs.declared.design.TheConstants.{MAX_COMMANDS};
-ghost use Rattle.std.specs.HashSet.{contains};
 ghost use Rattle.std.specs.List.{list_all};
 ghost use Rattle.std.specs.Prelude.{◌≡◌, ◌++◌, ◌≤◌, ◌<◌, ◌^◌, IfOk, IsTrue, OnOk, length};
-ghost use Rattle.thumbnails.specs.LitPoints.{is_same_thumb_point, no_points};
+ghost use Rattle.thumbnails.specs.LitPoints.{no_points};
 ghost use Rattle.thumbnails.specs.Sketches.{block_ended, bytes_of_sketch, drawn_thumbnails_of, line_start, nothing_sketched, sketch_by, sketched_after, sketched_along, with_needle};
 
-use crate::lit_points::{ThumbPoint, light_line};
+use crate::lit_points::{LitPoints, ThumbPoint};
 use crate::packing::put_thumbnail;
 use crate::scaling::{View, point_in, view_in};
 use design_model::{Act, ActScanner, Bytes, Command, Design, Memory, extent};
 use std::alloc::Global;
-use std::collections::HashSet;
 
 /// What is drawn so far: the points of the design and of the block, the last needle, whether the thread is loose, and the
 /// bytes of the blocks that are done.
 #[derive(Drop)]
 pub struct Sketch {
-    pub whole: HashSet<ThumbPoint>,
-    pub block: HashSet<ThumbPoint>,
+    pub whole: LitPoints,
+    pub block: LitPoints,
     pub place: ThumbPoint,
     pub loose: bool,
     pub done: Bytes,
@@ -54,7 +52,7 @@ fn sketch_along(alloc: Global, view: View, commands: &[Command]) -> Result<Sketc
     ensures { IfOk result (λ sketch. sketch_by sketch
         ≡ sketched_along view nothing_sketched (acts_along commands.now)) }
 {
-    let mut sketch = Sketch::new(alloc);
+    let mut sketch = Sketch::new(alloc)?;
     let mut scanner = ActScanner::new();
     for command in commands {
         let Some(act) = scanner.next(*command) else {
@@ -65,23 +63,17 @@ fn sketch_along(alloc: Global, view: View, commands: &[Command]) -> Result<Sketc
     Ok(sketch)
 }
 
-fn no_point(alloc: Global) -> HashSet<ThumbPoint>
-    ensures { contains is_same_thumb_point result ≡ no_points }
-{
-    HashSet::new(alloc)
-}
-
 impl Sketch {
-    fn new(alloc: Global) -> Sketch
-        ensures { sketch_by result ≡ nothing_sketched }
+    fn new(alloc: Global) -> Result<Sketch, Memory>
+        ensures { IfOk result (λ sketch. sketch_by sketch ≡ nothing_sketched) }
     {
-        Sketch {
-            whole: HashSet::new(alloc),
-            block: HashSet::new(alloc),
+        Ok(Sketch {
+            whole: LitPoints::new(alloc)?,
+            block: LitPoints::new(alloc)?,
             place: ThumbPoint { column: 0, row: 0 },
             loose: true,
             done: Bytes::new(alloc),
-        }
+        })
     }
 
     /// Draws an act.
@@ -95,7 +87,8 @@ impl Sketch {
             Act::Needle { at, float } => {
                 let to = point_in(view, at);
                 let from = self.start(float, to);
-                self.needle(from, to)
+                self.needle(from, to);
+                Ok(())
             }
             Act::Trim => {
                 self.loose = true;
@@ -114,14 +107,13 @@ impl Sketch {
         self.place
     }
 
-    fn needle(&mut self, from: ThumbPoint, to: ThumbPoint) -> Result<(), Memory>
-        ensures { OnOk result (sketch_by self.new ≡ with_needle (sketch_by self.old) from to) }
+    fn needle(&mut self, from: ThumbPoint, to: ThumbPoint)
+        ensures { sketch_by self.new ≡ with_needle (sketch_by self.old) from to }
     {
-        light_line(&mut self.whole, from, to)?;
-        light_line(&mut self.block, from, to)?;
+        self.whole.light_line(from, to);
+        self.block.light_line(from, to);
         self.place = to;
         self.loose = false;
-        Ok(())
     }
 
     /// Ends a block.
@@ -129,7 +121,7 @@ impl Sketch {
         ensures { OnOk result (sketch_by self.new ≡ block_ended (sketch_by self.old)) }
     {
         put_thumbnail(&mut self.done, &self.block)?;
-        self.block = no_point(alloc);
+        self.block = LitPoints::new(alloc)?;
         self.loose = true;
         Ok(())
     }
