@@ -17,7 +17,7 @@ import sys
 
 DEFINITION = re.compile(
     r"^(?:(?:pub )?(?:record|data) (?:pub )?(?P<kind>[A-Za-z_][\w'-]*)"
-    r"|(?:pub )?(?:abbrev )?(?:pub )?(?P<value>[A-Za-z_][\w'-]*)\s*:(?=\s|$))")
+    r"|(?:pub )?(?:(?:abbrev|unfoldable) )?(?:pub )?(?P<value>[A-Za-z_][\w'-]*)\s*:(?=\s|$))")
 NAME = re.compile(r"[A-Za-z_][\w']*(?:-[\w']+)*")
 TOKEN = re.compile(r"[^\s(){},;]+")
 USE = re.compile(r"(?:pub |ghost )?use Rattle\.([\w.]+?)(?:\.\{([^}]*)\}| as (\w+));?$")
