@@ -135,9 +135,13 @@ fn tried_further(
     if tried.alone > 0 {
         return tried_alone(rule, p, after, bests, tried, tried.alone - 1);
     }
-    let end = chain_end(p, after, bests, tried.left, &tried.best);
+    let n = tried.left;
+    if !is_worth_a_try(rule, p, after[n], &bests[n], &tried.best) {
+        return tried_alone(rule, p, after, bests, tried, 0);
+    }
+    let end = chain_end(p, after, bests, n, &tried.best);
     let mut far = tried.far;
-    if end < tried.left && is_stitch(rule, p, after[end], &after[..end], &mut far) {
+    if end < n && is_stitch(rule, p, after[end], &after[..end], &mut far) {
         return Tried {
             best: bests[end].with(p, after[end], end),
             left: end - 1,
@@ -145,7 +149,7 @@ fn tried_further(
             far,
         };
     }
-    let alone = tried.left - end;
+    let alone = n - end;
     tried_alone(rule, p, after, bests, Tried { far, ..tried }, alone)
 }
 

@@ -13,9 +13,9 @@ returns-then-is_stitch-clause-value c = λ stays nearest room so_far.
     let after = c.args.after.now in
     c.with.ensures.value
     ∙ (chain_end_is_best stays c.args.rule c.args.p nearest after c.args.bests.now c.args.tried.left e c.requires.there c.requires.sized
-    c.if-end-tried.true
+    c.if-end-n.true
     (subst (λ (other : Best). IsChainEnd c.args.p after c.args.bests.now c.args.tried.left other e) so_far
-    (c.chain_end-end.ensures.end c.if-end-tried.true))
+    (c.chain_end-end.ensures.end c.if-end-n.true))
     (may_be_left_out stays c.args.rule c.args.p (get_or after e origin) (take e after)
     (let size = length-take-le e after (omega (arith, c.chain_end-end.ensures.most, c.requires.there)) in
     omega (arith, size, c.chain_end-end.ensures.most, c.requires.most))
