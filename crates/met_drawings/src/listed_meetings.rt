@@ -1,12 +1,16 @@
+ghost use Rattle.line_meetings.specs.Meetings.{meetings_of_lines};
+ghost use Rattle.meeting_rounds.specs.RoundLaws.{is_passed_over, unworked};
 ghost use Rattle.met_drawings.specs.ListedMeetings.{settled_by, unless_kept, vanished_after};
 ghost use Rattle.meeting_rounds.specs.declared.rounds.TheConstants.{MAX_ROUND_GAP};
+ghost use Rattle.std.specs.List.{list_all};
 ghost use Rattle.std.specs.Prelude.{◌≡◌, ◌≤◌, IfOk, map};
 
 use crate::copies::without_copies;
 use crate::meet_fault::VanishedLine;
 use design_model::{Items, Memory, Points};
+use line_meetings::{Meeting, MeetingKind};
 use line_sections::{Line, Spot};
-use meeting_rounds::{WorkedLines, settled, tracked};
+use meeting_rounds::{WorkedLines, lines_at_rest_stay, settled, tracked};
 use std::alloc::Global;
 
 /// How lines are made to meet: the gap in tenths of a millimetre, whether lines list where they cross, and
@@ -18,33 +22,69 @@ pub struct MeetingRule {
     pub keeps_copies: bool,
 }
 
-/// Returns lines as they are drawn, with starts and ends, after all rounds.
+/// Returns lines as they are drawn, with starts and ends, after all rounds. The meetings of the lines are found
+/// already: where no round acts on them, none is made.
 pub fn settled_drawn(
     alloc: Global,
     rule: MeetingRule,
     lines: &[Line],
+    found: &[Meeting],
     starts: &[Spot],
     ends: &[Spot],
 ) -> Result<WorkedLines, Memory>
-    requires { rule.gap ≤ MAX_ROUND_GAP }
+    requires gap { rule.gap ≤ MAX_ROUND_GAP }
+    requires found { found.now ≡ meetings_of_lines rule.gap lines.now }
     ensures settled { IfOk result (λ settled. settled ≡ settled_by rule lines.now starts.now ends.now) }
     ensures starts { IfOk result (λ settled.
         map (λ s. s.block) settled.starts ≡ map (λ s. s.block) starts.now) }
     ensures ends { IfOk result (λ settled.
         map (λ s. s.block) settled.ends ≡ map (λ s. s.block) ends.now) }
 {
+    lines_at_rest_stay();
+    let worked = before_rounds(alloc, lines, starts, ends)?;
+    if are_at_rest(rule.lists_crossings, found) {
+        return Ok(worked);
+    }
+    let settled = settled(alloc, rule.lists_crossings, rule.gap, worked)?;
+    Ok(settled)
+}
+
+/// Returns lines as they are drawn, with starts and ends, to be worked on.
+fn before_rounds(
+    alloc: Global,
+    lines: &[Line],
+    starts: &[Spot],
+    ends: &[Spot],
+) -> Result<WorkedLines, Memory>
+    ensures { IfOk result (λ worked. worked ≡ unworked lines.now starts.now ends.now) }
+{
     let drawn = tracked(alloc, lines)?;
     let mut kept_starts = Items::new(alloc);
     kept_starts.append(starts)?;
     let mut kept_ends = Items::new(alloc);
     kept_ends.append(ends)?;
-    let worked = WorkedLines {
+    Ok(WorkedLines {
         lines: Items::from_vec(drawn),
         starts: kept_starts,
         ends: kept_ends,
-    };
-    let settled = settled(alloc, rule.lists_crossings, rule.gap, worked)?;
-    Ok(settled)
+    })
+}
+
+/// Returns whether no round acts on meetings.
+fn are_at_rest(lists_crossings: bool, meetings: &[Meeting]) -> bool
+    ensures { result ≡ list_all (λ m. is_passed_over lists_crossings m.kind) meetings.now }
+{
+    meetings.iter().all(|m| rests(lists_crossings, m.kind))
+}
+
+fn rests(lists_crossings: bool, kind: MeetingKind) -> bool
+    ensures { result ≡ is_passed_over lists_crossings kind }
+{
+    match kind {
+        MeetingKind::Overlap | MeetingKind::Repeat => true,
+        MeetingKind::Crossing => !lists_crossings,
+        MeetingKind::ClosePoints | MeetingKind::BesideSegment | MeetingKind::OnSegment => false,
+    }
 }
 
 /// Returns lines without the segments that copy an earlier one, unless copies are kept.

@@ -1,6 +1,7 @@
 ghost use Rattle.design_model.specs.OutOfMemory.{IsSpecified};
 ghost use Rattle.line_graph.specs.JoinedDrawings.{joined_drawing};
 ghost use Rattle.line_graph.specs.WalkEnds.{HasNoEnds};
+ghost use Rattle.line_meetings.specs.Meetings.{meetings_of_lines};
 ghost use Rattle.met_drawings.specs.MeetLaws.{is_near_one};
 ghost use Rattle.met_drawings.specs.MeetingCounts.{left_count};
 ghost use Rattle.met_drawings.specs.MetDrawings.{lines_met, meet_is_out_of_memory, met_after, met_of};
@@ -16,6 +17,7 @@ use crate::theorems::{left_meetings_are_found, written_lines_stay_near};
 use design_model::Items;
 use drawing_edits::{draw_lines, joined_with_ends};
 use line_graph::{Drawing, Line, Spot};
+use line_meetings::{Meeting, find_meetings};
 use meeting_rounds::{WorkedLines, lines_of};
 use std::alloc::Global;
 
@@ -59,18 +61,21 @@ pub fn meet(
     d.keeps_limits();
     written_lines_stay_near();
     left_meetings_are_found();
-    let worked = settled_drawn(alloc, rule, d.lines(), starts, ends)?;
-    let met = met_by(alloc, rule, d, &worked)?;
+    let found = find_meetings(alloc, d.lines(), rule.gap)?;
+    let worked = settled_drawn(alloc, rule, d.lines(), found.as_slice(), starts, ends)?;
+    let met = met_by(alloc, rule, d, found.as_slice(), &worked)?;
     Ok(met)
 }
 
-/// Returns the drawing whose lines meet, where the lines were worked on.
+/// Returns the drawing whose lines meet, where the lines were worked on, and their meetings are found already.
 fn met_by(
     alloc: Global,
     rule: MeetingRule,
     d: &Drawing,
+    found: &[Meeting],
     worked: &WorkedLines,
 ) -> Result<MetDrawing, MeetFault>
+    requires { found.now ≡ meetings_of_lines rule.gap d.now.lines }
     ensures answer { IsSpecified meet_is_out_of_memory (met_after rule d.now worked.now) result }
     ensures whole { IfOk result (λ met. joined_drawing
         (record met.drawn { starts = met.joined.starts; ends = met.joined.ends }) ≡ Ok met.joined) }
@@ -93,6 +98,7 @@ fn met_by(
         alloc,
         rule,
         d.lines(),
+        found,
         worked.lines.as_slice(),
         listing.as_slice(),
         met.as_slice(),

@@ -1,10 +1,12 @@
+ghost use Rattle.design_model.specs.Points.{is_same_point};
+ghost use Rattle.line_meetings.specs.Meetings.{meetings_of_lines};
 ghost use Rattle.line_sections.specs.Lines.{points_of_lines};
-ghost use Rattle.met_drawings.specs.MeetingCounts.{meeting_counts_of, crossing_count, has_moved, is_crossing, is_left, is_put, is_repeat, left_count, points_worked, segment_count};
+ghost use Rattle.met_drawings.specs.MeetingCounts.{has_moved, is_crossing, is_left, is_put, is_repeat, left_count, meeting_counts_of, points_worked, segment_count};
 ghost use Rattle.std.specs.List.{count_by};
-ghost use Rattle.std.specs.Prelude.{◌≡◌, ◌≤◌, IfOk, length};
+ghost use Rattle.std.specs.Prelude.{◌≡◌, ◌≤◌, IfOk, length, true};
 
 use crate::listed_meetings::MeetingRule;
-use design_model::{Items, Memory, Points};
+use design_model::{Items, Memory, Point, Points};
 use drawing_review::counted_from_least;
 use line_meetings::{Meeting, MeetingKind, find_meetings};
 use line_sections::Line;
@@ -22,25 +24,27 @@ pub struct MeetingCounts {
     pub left: usize,
 }
 
-/// Returns what was done to lines that were worked on, became `listing` and then `met`.
+/// Returns what was done to lines that were worked on, became `listing` and then `met`. The meetings of the lines are
+/// found already.
 pub fn counts(
     alloc: Global,
     rule: MeetingRule,
     lines: &[Line],
+    found: &[Meeting],
     worked: &[TrackedLine],
     listing: &[Line],
     met: &[Line],
 ) -> Result<MeetingCounts, Memory>
+    requires { found.now ≡ meetings_of_lines rule.gap lines.now }
     ensures { IfOk result (λ counts.
         counts ≡ meeting_counts_of rule lines.now worked.now listing.now met.now) }
 {
-    let crossings = crossings_in(alloc, rule.gap, lines)?;
     let points = points_worked_on(alloc, worked)?;
     let passed = segments_in(alloc, listing)?;
     let kept = segments_in(alloc, met)?;
-    let left = left_in(alloc, rule, met)?;
+    let left = left_in(alloc, rule, lines, found, met)?;
     Ok(MeetingCounts {
-        crossings,
+        crossings: crossings_among(found),
         moved: moved_among(points.as_slice()),
         listed: put_among(points.as_slice()),
         dropped: passed.saturating_sub(kept),
@@ -111,26 +115,72 @@ fn points_in(alloc: Global, lines: &[Line]) -> Result<usize, Memory>
     Ok(n)
 }
 
-fn crossings_in(alloc: Global, gap: u16, lines: &[Line]) -> Result<usize, Memory>
-    ensures { IfOk result (λ n. n ≡ crossing_count gap lines.now) }
+/// Returns the number of meetings that are left in the lines that others became. The meetings of those are found
+/// already, and are these where the lines are the same.
+fn left_in(
+    alloc: Global,
+    rule: MeetingRule,
+    lines: &[Line],
+    found: &[Meeting],
+    met: &[Line],
+) -> Result<usize, Memory>
+    requires { found.now ≡ meetings_of_lines rule.gap lines.now }
+    ensures { IfOk result (λ n. n ≡ left_count rule met.now) }
 {
-    let meetings = find_meetings(alloc, lines, gap)?;
-    let n = crossings_among(meetings.as_slice());
+    if are_same_lines(lines, met) {
+        return Ok(left_among(rule, found));
+    }
+    let meetings = find_meetings(alloc, met, rule.gap)?;
+    let n = left_among(rule, meetings.as_slice());
     Ok(n)
+}
+
+fn are_same_lines(one: &[Line], other: &[Line]) -> bool
+    ensures { result ≡ true → one.now ≡ other.now }
+{
+    let mut a = one;
+    let mut b = other;
+    while let [line, after @ ..] = a {
+        let [like, after_like @ ..] = b else {
+            return false;
+        };
+        if !are_same_points(line.points(), like.points()) || line.block() != like.block() {
+            return false;
+        }
+        a = after;
+        b = after_like;
+    }
+    b.is_empty()
+}
+
+fn are_same_points(one: &[Point], other: &[Point]) -> bool
+    ensures { result ≡ true → one.now ≡ other.now }
+{
+    let mut a = one;
+    let mut b = other;
+    while let [p, after @ ..] = a {
+        let [q, after_like @ ..] = b else {
+            return false;
+        };
+        if !is_same(*p, *q) {
+            return false;
+        }
+        a = after;
+        b = after_like;
+    }
+    b.is_empty()
+}
+
+fn is_same(p: Point, q: Point) -> bool
+    ensures { result ≡ is_same_point p q }
+{
+    p == q
 }
 
 fn crossings_among(meetings: &[Meeting]) -> usize
     ensures { result ≡ count_by (λ m. is_crossing m.kind) meetings.now }
 {
     meetings.iter().filter(|m| does_cross(m.kind)).count()
-}
-
-fn left_in(alloc: Global, rule: MeetingRule, lines: &[Line]) -> Result<usize, Memory>
-    ensures { IfOk result (λ n. n ≡ left_count rule lines.now) }
-{
-    let meetings = find_meetings(alloc, lines, rule.gap)?;
-    let n = left_among(rule, meetings.as_slice());
-    Ok(n)
 }
 
 fn left_among(rule: MeetingRule, meetings: &[Meeting]) -> usize
