@@ -1,5 +1,6 @@
 pub mod Names
 mod SpacedFacts
+mod ChoiceFacts
 mod SpacedAnswerFacts
 mod SpacingLawFacts
 pub mod JunctionLemmas
