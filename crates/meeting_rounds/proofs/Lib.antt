@@ -2,6 +2,7 @@ mod PutFacts
 mod MoveFacts
 mod RoundFacts
 mod NearFacts
+mod LawFacts
 pub mod SpotLemmas
 pub mod RoundLemmas
 pub mod StayLemmas
