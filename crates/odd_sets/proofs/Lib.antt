@@ -7,6 +7,12 @@ pub mod OpenLemmas
 mod LimitFacts
 mod SlackRowFacts
 mod SetFacts
+mod SlotFacts
+mod MatchedFacts
+mod TreeFacts
+mod ShrinkFacts
+mod ShrunkFacts
+mod ExpandFacts
 pub mod TreeLemmas
 pub mod AugmentLemmas
 pub mod HandleLemmas

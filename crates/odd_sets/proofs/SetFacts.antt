@@ -2,26 +2,26 @@
 use Rattle.std.proofs.Common.{◌≡◌, ℕ, List, [], ◌∷◌, map, refl}
 use Rattle.odd_sets.proofs.Names.{DualSet, OddSetValue, dual_sets, height, dual_load, total, key_count, match_members, members_in, odd_set_of, members_at, slacks_at, parts_at, set_in, Slots, all_dual_sets, outer_with_both, inner_dual_sets, inner_members, outer_members, BranchValue, MatchValue, PartValue, TightEdge, BlossomPart}
 
-abbrev link : ℕ → ℕ → TightEdge
+abbrev pub link : ℕ → ℕ → TightEdge
 link from to = record { from = from; to = to }
 
 -- one vertex under its own number, with a dual in halves of a step
-abbrev place : ℕ → ℕ → OddSetValue
+abbrev pub place : ℕ → ℕ → OddSetValue
 place x dual = odd_set_of x (x ∷ []) dual (x ∷ []) []
 
-abbrev part : OddSetValue → ℕ → ℕ → PartValue
+abbrev pub part : OddSetValue → ℕ → ℕ → PartValue
 part s from to = record { odd_set = s; next = link from to }
 
 -- the places 1, 2 and 3 in a blossom under the key 9
-abbrev blossom : OddSetValue
+abbrev pub blossom : OddSetValue
 blossom = odd_set_of 9 (1 ∷ 2 ∷ 3 ∷ []) 7 (0 ∷ []) (part (place 1 4) 1 2 ∷ part (place 2 5) 2 3 ∷ part (place 3 6) 3 1 ∷ [])
 
 -- the blossom before place 4, and place 5 before place 6
-abbrev tree : List BranchValue
+abbrev pub tree : List BranchValue
 tree = record { up = link 0 1; inner = blossom; pair = link 3 4; outer = place 4 1 }
     ∷ record { up = link 4 5; inner = place 5 1; pair = link 5 6; outer = place 6 1 } ∷ []
 
-abbrev matches : List MatchValue
+abbrev pub matches : List MatchValue
 matches = record { first = place 4 1; second = blossom; link = link 4 1 }
     ∷ record { first = place 5 1; second = place 6 1; link = link 5 6 } ∷ []
 
