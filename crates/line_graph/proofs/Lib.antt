@@ -44,3 +44,8 @@ mod EndFacts
 mod LeastWalkFacts
 mod PieceListFacts
 mod SewnWalkFacts
+mod LabelFacts
+mod PieceLabelFacts
+mod LinkFacts
+mod MakerFacts
+mod LawFacts
