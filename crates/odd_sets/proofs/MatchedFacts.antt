@@ -114,5 +114,6 @@ known_opened_even s cs are opens = let odd : length s.members % 2 ≡ 1 = opens.
 pub known_tight : (d : TableValue) → IsTightMatch d (pair (place 1 4) (place 2 6) (link 1 2)) → 2 * entry d 1 2 ≡ 10
 known_tight d tight = tight.link
 
-pub known_tight_inside : (d : TableValue) → IsTightMatch d (pair blossom blossom (link 1 2)) → (2 * entry d 1 2 ≡ 9) × (2 * entry d 2 3 ≡ 11)
+pub known_tight_inside : (d : TableValue) → IsTightMatch d (pair blossom blossom (link 1 2))
+    → (2 * entry d 1 2 ≡ 9) × (2 * entry d 2 3 ≡ 11)
 known_tight_inside d tight = (tight.first.0, tight.second.1.0)

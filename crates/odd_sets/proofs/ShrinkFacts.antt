@@ -53,7 +53,9 @@ known_chain_even to can = odd can.even
 pub known_chain_empty : CanClose (place 1 4) (link 1 1) [] 1 → ⊥
 known_chain_empty can = none_there can.some
 
-pub known_chain_kept : (to : ℕ) → CanClose (place 1 4) (link 1 2) (part (place 2 5) 2 3 ∷ part (odd_set_of 3 (3 ∷ 4 ∷ []) 0 [] []) 3 1 ∷ []) to → ⊥
+pub known_chain_kept : (to : ℕ)
+    → CanClose (place 1 4) (link 1 2) (part (place 2 5) 2 3 ∷ part (odd_set_of 3 (3 ∷ 4 ∷ []) 0 [] []) 3 1 ∷ []) to
+    → ⊥
 known_chain_kept to can = other can.kept.1.0.odd
 
 pub known_chain_rows : (top : OddSetValue) (to : ℕ) → CanClose top (link 1 2) chain to → length top.near ≡ 1

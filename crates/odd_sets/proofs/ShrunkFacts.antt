@@ -74,8 +74,11 @@ pub known_chain_sums : (chain : List PartValue) (aside : List BranchValue) (way 
     → F (branch_dual_sets tree) + F (dual_sets_in chain) + F (branch_dual_sets (reverse aside)) ≡ F (branch_dual_sets tree))
     × ((d : TableValue) (h : ℕ → ℕ) → IsSymmetric d → IsTight d h (link 4 6) → Each (IsSoundBranch d h) tree
     → Each (IsSoundBranch d h) tree × Each (IsSoundBranch d h) (reverse aside) × Each (IsSoundPart d h) chain × IsTight d h way)
-known_chain_sums chain aside way to is = (is.sums, λ d h both tight firm.
-    let after = is.firm d h both tight firm in (after.0, after.1, after.2, after.3))
+known_chain_sums chain aside way to is = (
+  is.sums,
+  λ d h both tight firm.
+      let after = is.firm d h both tight firm in (after.0, after.1, after.2, after.3),
+)
 
 -- one step of it takes the last branch that is left
 pub known_chain_step : (sets : Slots) (b : Branch) (old new : Chain) (was now : List Branch) → ExtendsChain sets b old was new now
