@@ -16,3 +16,4 @@ mod PassKeeping
 mod DistanceLemmas
 mod SweepFacts
 mod LeastCostFacts
+mod TableFacts
