@@ -21,3 +21,8 @@ pub mod EndLemmas
 pub mod AdjustmentLemmas
 pub mod InitialDualLemmas
 mod OptimalMatchingFacts
+mod SearchFacts
+mod ChangeFacts
+mod SlackFacts
+mod EdgeFacts
+mod TakenFacts
