@@ -15,3 +15,4 @@ mod ExactCuts
 mod WalkFaultFacts
 mod CutFaultFacts
 mod PackingFacts
+mod TableFacts
