@@ -9,3 +9,4 @@ pub mod TourLemmas
 pub mod StepLemmas
 pub mod TourFacts
 pub mod PassFacts
+mod TourStepFacts
