@@ -4,26 +4,26 @@ use Rattle.std.proofs.Common.{◌≡◌, [], ◌∷◌, Some, None, true, nat_lt
 use Rattle.cut_certificate.proofs.Names.{Moat, RowsValue, LiftInput, distance_beyond, depth, level, lowest, lift_input, width_sum, lowered_distance, distance_from, surrounded}
 use Rattle.cut_certificate.specs.declared.terminal_state.TerminalState.TheVariants as stand
 
-abbrev first : Moat
+abbrev pub first : Moat
 first = record { members = 0 ∷ []; width = 2 }
 
-abbrev second : Moat
+abbrev pub second : Moat
 second = record { members = 1 ∷ []; width = 1 }
 
-abbrev around_three : Moat
+abbrev pub around_three : Moat
 around_three = record { members = 2 ∷ 0 ∷ 1 ∷ []; width = 3 }
 
-abbrev last : Moat
+abbrev pub last : Moat
 last = record { members = 3 ∷ []; width = 11 }
 
-abbrev rows : RowsValue
+abbrev pub rows : RowsValue
 rows = record {
   terminals = 0 ∷ 1 ∷ 2 ∷ 3 ∷ [];
   table = (0 ∷ 2 ∷ 3 ∷ 6 ∷ 1 ∷ []) ∷ (2 ∷ 0 ∷ 3 ∷ 6 ∷ 1 ∷ []) ∷ (3 ∷ 3 ∷ 0 ∷ 7 ∷ 2 ∷ []) ∷ (6 ∷ 6 ∷ 7 ∷ 0 ∷ 5 ∷ []) ∷ [];
 }
 
 -- the hub is junction 4
-abbrev star : LiftInput
+abbrev pub star : LiftInput
 star = lift_input rows 5 (first ∷ around_three ∷ second ∷ last ∷ [])
 
 -- of all four, and of none but the wide ones

@@ -17,3 +17,5 @@ mod FitLemmas
 mod LevelFacts
 mod MoatCutFacts
 mod LiftResultFacts
+mod ProgressFacts
+mod AddedCutFacts
