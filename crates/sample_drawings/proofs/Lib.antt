@@ -4,3 +4,4 @@ pub mod DrawLemmas
 pub mod RowLemmas
 pub mod ShortLines
 pub mod SampleRoomLemmas
+mod GridFacts

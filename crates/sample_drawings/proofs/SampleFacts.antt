@@ -5,11 +5,11 @@ use Rattle.sample_drawings.proofs.Names.{Point, steps_of_line, Segment, drawn_nu
 use Rattle.line_sections.specs.Lines.{LineValue}
 
 -- a place on the sheet
-abbrev at : ℕ → ℕ → Point
+abbrev pub at : ℕ → ℕ → Point
 at x y = record { x = pos x; y = pos y }
 
 -- a line from one place to another
-abbrev line : Point → Point → Segment
+abbrev pub line : Point → Point → Segment
 line p q = record { from = p; to = q }
 
 -- the first number is a state too, before any draw
@@ -69,7 +69,7 @@ pub known_sample_segments : (sample_segments 75
 known_sample_segments = (refl, refl, refl)
 
 -- the line of a segment has its two ends
-abbrev drawn_line : Point → Point → LineValue
+abbrev pub drawn_line : Point → Point → LineValue
 drawn_line p q = record { block = 0; points = p ∷ q ∷ [] }
 
 pub known_sample : sample_drawing_of 75 ≡ record {
