@@ -1,2 +1,3 @@
 pub mod ItemLemmas
 pub mod EndLemmas
+mod EndFacts
