@@ -20,3 +20,5 @@ pub mod FreedLemmas
 pub mod TakenLemmas
 mod BestEndFacts
 mod FreedLawFacts
+mod EndDistanceFacts
+mod FreedFacts
