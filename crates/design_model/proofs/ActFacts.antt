@@ -1,8 +1,9 @@
 -- Worked values of the acts.
-use Rattle.std.proofs.Common.{◌≡◌, ℤ, pos, true, false, [], ◌∷◌, refl}
-use Rattle.design_model.proofs.Names.{Stitch, Jump, Point, acts_along, acts_without_numbers, numbered}
+use Rattle.std.proofs.Common.{◌≡◌, ℤ, pos, true, false, [], ◌∷◌, Some, None, refl}
+use Rattle.design_model.proofs.Names.{Stitch, Jump, Point, acts_along, acts_without_numbers, numbered, numbered_act_list}
 use Rattle.design_model.specs.declared.act.Act.TheVariants as act
 use Rattle.design_model.specs.declared.command.Command.TheVariants.{Trim, Stop}
+use Rattle.design_model.specs.ActScanners.{acts_after}
 
 -- the point at that x on the axis
 abbrev pub at : ℤ → Point
@@ -35,3 +36,16 @@ pub known_acts_without_numbers :
     × (acts_without_numbers (acts_along (Stitch (at (pos 1)) ∷ Stop ∷ Jump (at (pos 2)) ∷ Stitch (at (pos 3)) ∷ []))
     ≡ act.Needle (at (pos 1)) false ∷ act.Stop ∷ act.Needle (at (pos 3)) false ∷ [])
 known_acts_without_numbers = (refl, refl)
+
+-- an act is in a list of its own
+pub known_numbered_act_list : (numbered_act_list 7 (Some act.Trim) ≡ record { number = 7; act = act.Trim } ∷ [])
+    × (numbered_act_list 7 None ≡ [])
+known_numbered_act_list = (refl, refl)
+
+-- After four commands, a jump with the thread sewn makes the next stitch a float, with a loose thread it doesn't.
+pub known_acts_after :
+    (acts_after (record { number = 4; thread = record { loose = false; jumped = true } }) (Stitch (at (pos 3)) ∷ Trim ∷ Trim ∷ Stop ∷ [])
+    ≡ numbered 5 (act.Needle (at (pos 3)) true) ∷ numbered 6 act.Trim ∷ numbered 8 act.Stop ∷ [])
+    × (acts_after (record { number = 4; thread = record { loose = true; jumped = true } }) (Trim ∷ Stitch (at (pos 3)) ∷ [])
+    ≡ numbered 6 (act.Needle (at (pos 3)) false) ∷ [])
+known_acts_after = (refl, refl)

@@ -1,6 +1,6 @@
 -- Worked values of the extent.
 use Rattle.std.proofs.Common.{◌≡◌, ℤ, pos, negsuc, [], ◌∷◌, Some, None, refl}
-use Rattle.design_model.proofs.Names.{Stitch, Jump, Point, acts_along, IsExtentOrNone, extent_of_points, extent_height, needle_points_of_acts, extent_width}
+use Rattle.design_model.proofs.Names.{Stitch, Jump, Point, acts_along, IsExtentOrNone, extent_of_points, extent_height, needle_points_of_acts, extent_width, grown_optional_extent}
 use Rattle.design_model.specs.declared.command.Command.TheVariants.{Trim, Stop}
 
 -- the point with those coordinates
@@ -32,3 +32,12 @@ known_some none = some none
   where
     some : place (pos 3) (pos 4) ∷ [] ≡ [] → ⊥
     some is = cc
+
+-- an extent from (-9, -1) to (-2, 12) grows on two sides; without one the points have their own
+pub known_grown :
+    (grown_optional_extent (Some (record { min = place (negsuc 8) (negsuc 0); max = place (negsuc 1) (pos 12) }))
+    (place (negsuc 4) (negsuc 6) ∷ place (pos 5) (pos 3) ∷ [])
+    ≡ Some (record { min = place (negsuc 8) (negsuc 6); max = place (pos 5) (pos 12) }))
+    × (grown_optional_extent None (place (pos 2) (pos 7) ∷ place (pos 5) (pos 3) ∷ [])
+    ≡ Some (record { min = place (pos 2) (pos 3); max = place (pos 5) (pos 7) }))
+known_grown = (refl, refl)

@@ -1,6 +1,6 @@
 -- Worked values of lengths.
 use Rattle.std.proofs.Common.{◌≡◌, ℤ, pos, negsuc, [], ◌∷◌, map, refl}
-use Rattle.design_model.specs.Lengths.{length_of, square_of, whole_root}
+use Rattle.design_model.specs.Lengths.{length_of, square_of, whole_root, root_from}
 use Rattle.design_model.specs.declared.point.Point.{Point}
 
 abbrev point : ℤ → ℤ → Point
@@ -10,3 +10,8 @@ point x y = record { x = x; y = y }
 pub known_lengths : map (length_of (point (pos 0) (pos 0))) (point (pos 3) (negsuc 3) ∷ point (pos 1) (pos 1) ∷ []) ≡ 500 ∷ 141 ∷ []
 unfolding length_of square_of whole_root
 known_lengths = refl
+
+-- the root of 200 is 14: from 8, which has the digits above the last three, and from nothing
+pub known_root : root_from 200 3 8 ∷ root_from 200 4 0 ∷ root_from 200 3 0 ∷ root_from 196 4 0 ∷ root_from 195 4 0 ∷ []
+    ≡ 14 ∷ 14 ∷ 7 ∷ 14 ∷ 13 ∷ []
+known_root = refl

@@ -6,6 +6,7 @@ use Rattle.design_model.specs.declared.command.Command.TheVariants.{Trim, Stop}
 use Rattle.design_model.specs.declared.design.TheConstants.{MAX_COMMANDS, MAX_LABEL, MAX_THREADS}
 use Rattle.design_model.specs.declared.point.TheConstants.{JUMP_LIMIT, NEEDLE_LIMIT}
 use Rattle.design_model.specs.declared.whole_number.TheConstants.{MAX_WHOLE}
+use Rattle.design_model.specs.Designs.{with_command_at, with_thread_at, without_commands}
 
 -- how far a needle and a jump may reach on each axis
 pub known_coordinate_limits : (NEEDLE_LIMIT ≡ 30000)
@@ -76,3 +77,14 @@ known_space_at_end label = label.trimmed refl
 pub known_labels : (label : List ℕ) → length label ≤ 16 → All IsPrintable label → slice_get label (length label - 1) ≢ Some 32
     → IsLabel label
 known_labels label short printable trimmed = record { short = short; printable = printable; trimmed = trimmed }
+
+-- one thread number or one command is replaced, and the rest stays; without commands label and threads stay
+abbrev design : DesignValue
+design = record { label = 65 ∷ []; threads = 9 ∷ 200 ∷ 7 ∷ []; commands = Trim ∷ Stitch far ∷ Stop ∷ [] }
+
+pub known_replaced : (with_thread_at design 1 4
+    ≡ record { label = 65 ∷ []; threads = 9 ∷ 4 ∷ 7 ∷ []; commands = Trim ∷ Stitch far ∷ Stop ∷ [] })
+    × (with_command_at design 1 (Jump farther)
+    ≡ record { label = 65 ∷ []; threads = 9 ∷ 200 ∷ 7 ∷ []; commands = Trim ∷ Jump farther ∷ Stop ∷ [] })
+    × (without_commands design ≡ record { label = 65 ∷ []; threads = 9 ∷ 200 ∷ 7 ∷ []; commands = [] })
+known_replaced = (refl, refl, refl)
