@@ -2,3 +2,4 @@ pub mod Names
 pub mod CallerLemmas
 mod OrderLemmas
 mod OrderFacts
+mod WrittenFacts
