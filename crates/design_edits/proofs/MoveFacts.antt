@@ -1,8 +1,10 @@
 -- Worked values of moves.
-use Rattle.std.proofs.Common.{◌≡◌, ℤ, pos, negsuc, [], ◌∷◌, Some, None, refl}
+use Rattle.std.proofs.Common.{◌≡◌, ℤ, pos, negsuc, [], ◌∷◌, Some, None, refl, true, false, map}
 use Rattle.design_edits.proofs.Names.{Stitch, Jump, Trim, Stop, Point, DesignValue, first_out_of_range, mirror_point, mirrored, shift_point, shifted, turn_point}
 use Rattle.design_edits.specs.declared.axis.Axis.TheVariants as axis
 use Rattle.design_edits.specs.declared.motion.TheConstants.{MAX_SHIFT}
+use Rattle.design_edits.specs.Motions.{is_small_motion}
+use Rattle.design_edits.specs.declared.motion.Motion.TheVariants as motion
 
 -- the point with those numbers
 abbrev pub at : ℤ → ℤ → Point
@@ -43,3 +45,9 @@ pub known_first_out_of_range : (first_out_of_range (shifted (pos 30000) (pos 0) 
     × (first_out_of_range (shifted (pos 29999) (pos 0) sample).commands ≡ Some 2)
     × (first_out_of_range (shifted (negsuc 30000) (pos 29998) sample).commands ≡ None)
 known_first_out_of_range = (refl, refl, refl)
+
+-- a shift is small up to 6 m on each axis, and a turn and a mirroring always are
+pub known_small_motion : map is_small_motion (motion.Shift (pos 60000) (negsuc 59999) ∷ motion.Shift (negsuc 60000) (pos 5)
+    ∷ motion.Shift (pos 5) (pos 60001) ∷ motion.Turn 7 ∷ motion.Mirror axis.Y ∷ [])
+    ≡ true ∷ false ∷ false ∷ true ∷ true ∷ []
+known_small_motion = refl
