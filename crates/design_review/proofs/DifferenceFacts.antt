@@ -6,6 +6,8 @@ use Rattle.design_model.specs.declared.command.Command.TheVariants.{Stitch, Jump
 use Rattle.design_model.specs.declared.point.Point.{Point}
 use Rattle.design_model.specs.Designs.{DesignValue}
 use Rattle.design_review.specs.Differences.{act_difference_of, thread_difference_of}
+use Rattle.design_model.specs.Acts.{acts_of, acts_without_numbers}
+use Rattle.design_review.specs.Sameness.{NoDifferenceIsSameness}
 
 abbrev at : ℕ → ℕ → Point
 at x y = record { x = pos x; y = pos y }
@@ -34,3 +36,9 @@ pub known_threads : (thread_difference_of (sewn (5 ∷ []) (Stop ∷ [])) (sewn 
     × (thread_difference_of (sewn (5 ∷ []) (Stop ∷ [])) (sewn (5 ∷ 2 ∷ 8 ∷ []) (Stop ∷ [])) ≡ None)
     × (thread_difference_of (sewn (5 ∷ []) []) (sewn [] []) ≡ Some (record { block = 1; first = 5; second = 1 }))
 known_threads = (refl, refl, refl)
+
+-- No difference means the same acts, and the same acts have no difference.
+pub known_sameness : NoDifferenceIsSameness → (first second : DesignValue)
+    → (act_difference_of first second ≡ None → acts_without_numbers (acts_of first) ≡ acts_without_numbers (acts_of second))
+    × (acts_without_numbers (acts_of first) ≡ acts_without_numbers (acts_of second) → act_difference_of first second ≡ None)
+known_sameness law first second = ((law first second).0, (law first second).1)

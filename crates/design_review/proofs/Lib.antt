@@ -9,3 +9,6 @@ mod PlaceFacts
 mod SamenessLemmas
 mod ThreadLemmas
 mod DifferenceFacts
+mod KeyFacts
+mod CrowdFacts
+mod OpenBlockFacts
