@@ -11,3 +11,5 @@ pub mod FeedLemmas
 mod ThreeLawFacts
 pub mod AcceptedLemmas
 pub mod LawLemmas
+mod WritingFacts
+mod DecoderFacts
