@@ -1,8 +1,8 @@
 -- The 64 colours of the palette, in red, green and blue from 0 to 255, as pyembroidery lists them in `EmbThreadPec.py`.
-use Rattle.std.proofs.Common.{◌≡◌, ℕ, List, [], ◌∷◌, ◌++◌, codes, map, refl}
+use Rattle.std.proofs.Common.{◌≡◌, ℕ, List, [], ◌∷◌, ◌++◌, codes, map, refl, length}
 use Rattle.std.specs.List.{range_with_len}
 use Rattle.std.specs.Prelude.{◌/◌, ◌%◌, drop, take}
-use Rattle.picture_parts.specs.Colours.{colour_of_thread}
+use Rattle.picture_parts.specs.Colours.{colour_of_thread, thread_colours}
 
 -- The hexadecimal digit of a number below 16.
 abbrev hex_digit : ℕ → List ℕ
@@ -42,3 +42,7 @@ pub known_repeats : map colour_of_thread (0 ∷ 128 ∷ 192 ∷ 65 ∷ 255 ∷ [
     ≡ rgb 255 200 200 ∷ rgb 255 200 200 ∷ rgb 255 200 200 ∷ rgb 14 31 124 ∷ rgb 255 240 141 ∷ []
 unfolding colour_of_thread
 known_repeats = refl
+
+-- 64 colours of seven characters
+pub known_length : (length thread_colours ≡ 448) × (take 7 (drop 28 thread_colours) ≡ codes "#ed171f")
+known_length = (refl, refl)

@@ -6,7 +6,7 @@ use Rattle.std.specs.Prelude.{◌+◌, bytes_eq, drop, take, if◌then◌else◌
 use Rattle.picture_parts.proofs.PartFacts.{point}
 use Rattle.picture_parts.specs.declared.marks.Mark.{Mark}
 use Rattle.picture_parts.specs.declared.marks.Mark.TheVariants.{Start, End, Stop, Trim, Even, Odd, Loose}
-use Rattle.picture_parts.specs.Marks.{mark_text, shape_at}
+use Rattle.picture_parts.specs.Marks.{mark_text, shape_at, mark_template}
 use Rattle.picture_parts.specs.Parts.{around, filled}
 use Rattle.picture_parts.specs.Paths.{coloured_path, move_text, path_end, path_start, straight_text}
 use Rattle.picture_parts.specs.Sheets.{foot_text, style_text}
@@ -63,3 +63,8 @@ known_path = refl
 pub known_foot : foot_text ≡ codes "</g>" ++ (10 ∷ codes "</g>" ++ (10 ∷ codes "</svg>" ++ 10 ∷ []))
 unfolding filled foot_text
 known_foot = refl
+
+-- a shape has its needle at the mark
+pub known_templates : (mark_template Stop ≡ codes "<path class='stop' d='M@m25,-7h4v14h-4zm8,0h4v14h-4z'/>\n")
+    × (mark_template Loose ≡ codes "<path fill='none' stroke='#d00' stroke-width='3' d='M@m-15,0a15,15,0,1,0,30,0a15,15,0,1,0,-30,0'/>\n")
+known_templates = (refl, refl)

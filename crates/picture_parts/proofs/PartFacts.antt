@@ -3,8 +3,9 @@ use Rattle.std.proofs.Common.{◌≡◌, ℤ, pos, negsuc, [], ◌∷◌, ◌++�
 use Rattle.std.specs.Fmt.{digits}
 use Rattle.design_model.specs.declared.point.Point.{Point}
 use Rattle.picture_parts.specs.Colours.{colour_of_thread}
-use Rattle.picture_parts.specs.Parts.{escaped_text, filled, mm_text}
+use Rattle.picture_parts.specs.Parts.{escaped_text, filled, mm_text, part_text, text_after}
 use Rattle.picture_parts.specs.Sheets.{head_text, sheet_head, style_text}
+use Rattle.picture_parts.specs.declared.parts.Part.TheVariants.{At, Mm, Number}
 
 abbrev pub point : ℤ → ℤ → Point
 point x y = record { x = x; y = y }
@@ -34,3 +35,12 @@ pub known_head : sheet_head (record { corner = point (negsuc 49) (pos 7); width 
     ++ (10 ∷ codes "<path fill='#d9d1be' d='M-50,7h300v260h-300z'/>" ++ (10 ∷ style_text))
 unfolding head_text filled digits
 known_head = refl
+
+-- after the first mark, and nothing after the end of a text without one
+pub known_after : map text_after (codes "a@b@c" ∷ codes "@c" ∷ codes "abc" ∷ []) ≡ codes "b@c" ∷ codes "c" ∷ [] ∷ []
+known_after = refl
+
+-- a number, a point, and a length in millimetres; a text stays, and a label is escaped
+pub known_parts : map part_text (Number 120 ∷ At (point (pos 5) (negsuc 6)) ∷ Mm 123 ∷ []) ≡ codes "120" ∷ codes "5,-7" ∷ codes "12.3" ∷ []
+unfolding digits
+known_parts = refl

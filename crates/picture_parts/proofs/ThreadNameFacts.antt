@@ -1,7 +1,7 @@
 -- The 64 names of the palette, as pyembroidery lists them in `EmbThreadPec.py`.
-use Rattle.std.proofs.Common.{◌≡◌, [], ◌∷◌, codes, map, refl}
+use Rattle.std.proofs.Common.{◌≡◌, [], ◌∷◌, codes, map, refl, length, ◌++◌}
 use Rattle.std.specs.List.{range_with_len}
-use Rattle.picture_parts.specs.ThreadNames.{name_of_thread}
+use Rattle.picture_parts.specs.ThreadNames.{name_of_thread, thread_names, without_end_white_space}
 
 -- The threads 1 to 64, four a line.
 pub known_names : map name_of_thread (range_with_len 1 64) ≡
@@ -28,3 +28,12 @@ known_names = refl
 pub known_repeats : map name_of_thread (0 ∷ 65 ∷ 255 ∷ []) ≡ codes "Applique" ∷ codes "Prussian Blue" ∷ codes "Cream Yellow" ∷ []
 unfolding name_of_thread
 known_repeats = refl
+
+-- 64 names of fifteen characters
+pub known_length : length thread_names ≡ 960
+known_length = refl
+
+-- white space inside and at the beginning stays
+pub known_end : map without_end_white_space (codes " Light Lilac    " ∷ (codes "a" ++ 9 ∷ 10 ∷ []) ∷ codes "   " ∷ [])
+    ≡ codes " Light Lilac" ∷ codes "a" ∷ [] ∷ []
+known_end = refl
