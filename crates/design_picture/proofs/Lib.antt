@@ -4,3 +4,4 @@ mod ShownLemmas
 mod PictureFacts
 mod DisplayFacts
 mod WholePictureFacts
+mod ShownFacts
