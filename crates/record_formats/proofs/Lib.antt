@@ -7,3 +7,5 @@ mod RoundTripFacts
 mod TwosComplementFacts
 pub mod WriterLemmas
 pub mod rereading
+mod StateFacts
+mod RoundTripLawFacts

@@ -95,7 +95,7 @@ pub known_cuts : map trims_or_stops (event.Stitch (point (pos 0) (pos 0)) ∷ ev
 known_cuts = refl
 
 -- a header of a label and a thread, and records of stitches whose moves are their number and their offset
-abbrev two_bytes : Layout
+abbrev pub two_bytes : Layout
 two_bytes = record {
   header = 2;
   label = take 1;
