@@ -12,3 +12,4 @@ pub mod FitLemmas
 pub mod LimitLemmas
 pub mod CountLemmas
 pub mod StepLemmas
+mod TracingFacts
