@@ -15,3 +15,4 @@ mod WritingFacts
 pub mod WritingLemmas
 pub mod laws
 mod TheoremFacts
+mod StepFacts
