@@ -14,3 +14,6 @@ pub mod TieOrderLemmas
 pub mod NearLemmas
 pub mod PutLemmas
 mod TieFacts
+mod CutLawFacts
+mod TieLawFacts
+mod ScaleFacts
