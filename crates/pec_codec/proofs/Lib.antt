@@ -15,3 +15,4 @@ pub mod RoundTripLemmas
 pub mod RecordByteLemmas
 mod WritingFacts
 pub mod WritingLemmas
+mod StepFacts

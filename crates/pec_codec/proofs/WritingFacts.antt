@@ -4,20 +4,20 @@ use Rattle.pec_codec.proofs.Names.{Command, Trim, Point, DesignValue, extent_of,
 use Rattle.design_model.specs.declared.command.Command.TheVariants.{Jump, Stitch, Stop}
 use Rattle.format_traits.specs.declared.fault.WriteFault.TheVariants as fault
 
-abbrev point : ℤ → ℤ → Point
+abbrev pub point : ℤ → ℤ → Point
 point x y = record { x = x; y = y }
 
 -- a design without label and threads
-abbrev sewn : List Command → DesignValue
+abbrev pub sewn : List Command → DesignValue
 sewn commands = record { label = []; threads = []; commands = commands }
 
 -- a square of 30, sewn once and cut
-abbrev square : DesignValue
+abbrev pub square : DesignValue
 square = sewn (Stitch (point (pos 0) (pos 0)) ∷ Stitch (point (pos 30) (pos 0)) ∷ Stitch (point (pos 30) (pos 30))
     ∷ Stitch (point (pos 0) (pos 30)) ∷ Stitch (point (pos 0) (pos 0)) ∷ Trim ∷ [])
 
 -- three blocks, with a stitch that needs two bytes
-abbrev blocks : DesignValue
+abbrev pub blocks : DesignValue
 blocks = sewn (Stitch (point (pos 0) (pos 0)) ∷ Stitch (point (pos 62) (negsuc 62)) ∷ Stitch (point (pos 125) (negsuc 62))
     ∷ Stop ∷ Stitch (point (pos 125) (negsuc 62)) ∷ Stop ∷ Stitch (point (pos 125) (negsuc 62)) ∷ [])
 
