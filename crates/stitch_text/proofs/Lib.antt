@@ -18,3 +18,4 @@ mod LawFacts
 mod LineFacts
 mod ReadingFacts
 mod StageFacts
+mod DraftFacts
