@@ -71,10 +71,10 @@ pub known_own_front : IsOkAnd (file_reads Pes (codes "#PES0001" ++ 0x00 ∷ 0x00
 known_own_front = refl
 
 -- a block of a stitch to the right and further downwards, and the end; what follows is not looked at
-abbrev block : List ℕ
+abbrev pub block : List ℕ
 block = replicate 528 32 ++ 0x05 ∷ 0x07 ∷ 0xFF ∷ 0x01 ∷ 0x01 ∷ []
 
-abbrev target : Point
+abbrev pub target : Point
 target = record { x = pos 5; y = pos 7 }
 
 -- it stands at offset 8 of a PEC file, and here at 14 of a PES file

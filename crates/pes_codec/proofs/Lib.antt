@@ -3,3 +3,4 @@ pub mod FrontLemmas
 mod FileFacts
 pub mod FileLemmas
 mod FileLawFacts
+mod FileStateFacts
