@@ -1,10 +1,20 @@
 -- Worked values of files with thumbnails, and what each field of a redrawn file excludes.
-use Rattle.std.proofs.Common.{◌≡◌, ℕ, List, [], ◌∷◌, Err, length, replicate, take, refl, ap}
-use Rattle.design_model.specs.Designs.{DesignValue, empty_design}
+use Rattle.std.proofs.Common.{◌≡◌, ℕ, List, [], ◌∷◌, Err, length, replicate, take, refl, ap, true, false, ◌++◌, ◌==◌, ◌&&◌, ◌||◌, map, IfOk, true}
+use Rattle.design_model.specs.Designs.{DesignValue, empty_design, KeepsLimits}
 use Rattle.format_traits.specs.Meanings.{Meaning}
 use Rattle.format_traits.specs.declared.fault.ReadFault.TheVariants as fault
-use Rattle.thumbnails.specs.Packings.{thumb_bytes}
-use Rattle.thumbnails.specs.Redrawings.{IsRedrawn, with_thumbnails_of}
+use Rattle.thumbnails.specs.Packings.{thumb_bytes, row_bytes, rows_from}
+use Rattle.thumbnails.specs.Redrawings.{IsRedrawn, with_thumbnails_of, ThumbnailsAreNotRead}
+use Rattle.std.specs.HashSet.{contains}
+use Rattle.pec_codec.specs.Records.{records_after_skip}
+use Rattle.pes_codec.specs.Formats.{file_meaning}
+use Rattle.pes_codec.specs.declared.file_kind.FileKind.{FileKind}
+use Rattle.record_formats.specs.Records.{next, over, refused}
+use Rattle.record_formats.specs.declared.event.Event.TheVariants as event
+use Rattle.thumbnails.specs.LitPoints.{ThumbPoints, is_same_thumb_point}
+use Rattle.thumbnails.specs.Sketches.{sketch_by}
+use Rattle.thumbnails.specs.Tails.{TailsAreNotRead, has_end}
+use Rattle.thumbnails.specs.declared.sketch.Sketch.{Sketch}
 
 -- The last 456 bytes are replaced: two thumbnails of a design without commands, which are blank.
 pub known_redrawn : (with_thumbnails_of empty_design (1 ∷ 2 ∷ 3 ∷ replicate 456 9) ≡ 1 ∷ 2 ∷ 3 ∷ replicate 456 0)
@@ -29,3 +39,42 @@ longer_after m d file before after is = let same = is.size in cc
 pub not_blank : (m : Meaning) → IsRedrawn m empty_design (replicate 456 9) → ⊥
 unfolding thumb_bytes
 not_blank m is = let first : 9 ∷ [] ≡ 0 ∷ [] = ap (take 1) is.blank in cc
+
+-- The points in the columns 0, 9 and 47 of row 5, and one in row 6: bit 0 of the first byte, bit 1 of the second, bit 7 of the last.
+abbrev lit : ThumbPoints
+lit point = (point.row == 5 && (point.column == 0 || (point.column == 9 || point.column == 47)))
+    || (point.row == 6 && point.column == 16)
+
+pub known_rows : (row_bytes lit 5 ≡ 1 ∷ 2 ∷ 0 ∷ 0 ∷ 0 ∷ 128 ∷ [])
+    × (rows_from lit 5 2 ≡ 1 ∷ 2 ∷ 0 ∷ 0 ∷ 0 ∷ 128 ∷ 0 ∷ 0 ∷ 1 ∷ 0 ∷ 0 ∷ 0 ∷ []) × (rows_from lit 5 0 ≡ [])
+known_rows = (refl, refl, refl)
+
+-- what is drawn, by the sets of points
+pub known_sketch : (sketch : Sketch) → sketch_by sketch ≡ record {
+  whole = contains is_same_thumb_point sketch.whole;
+  block = contains is_same_thumb_point sketch.block;
+  place = sketch.place;
+  loose = sketch.loose;
+  done = sketch.done;
+}
+known_sketch sketch = refl
+
+-- records with an end, without one, and refused
+pub known_ends : map has_end (next 5 event.Trim (over true) ∷ next 5 event.Trim (over false) ∷ refused (fault.Control 7) ∷ [])
+    ≡ true ∷ false ∷ false ∷ []
+known_ends = refl
+
+-- after the end of a block, the bytes 7 and 8 are read as two blank ones are
+pub known_tails : TailsAreNotRead
+    → records_after_skip 0 100 (5 ∷ 7 ∷ 255 ∷ 7 ∷ 8 ∷ []) ≡ records_after_skip 0 100 (5 ∷ 7 ∷ 255 ∷ 0 ∷ 0 ∷ [])
+known_tails law = law (5 ∷ 7 ∷ 255 ∷ []) (7 ∷ 8 ∷ []) 2 0 100 refl
+
+pub known_any_tail : TailsAreNotRead → (bytes tail : List ℕ)
+    → has_end (records_after_skip 0 100 (bytes ++ replicate 2 0)) ≡ true
+    → records_after_skip 0 100 (bytes ++ tail) ≡ records_after_skip 0 100 (bytes ++ replicate 2 0)
+known_any_tail law bytes tail ends = law bytes tail 2 0 100 ends
+
+-- a written file is read as before and has as many bytes with its thumbnails
+pub known_unread : ThumbnailsAreNotRead → (kind : FileKind) (d : DesignValue) → KeepsLimits d
+    → IfOk ((file_meaning kind).writes d) (λ file. IsRedrawn (file_meaning kind) d file)
+known_unread law kind d limits = law kind d limits
