@@ -1,3 +1,4 @@
 pub mod Names
 pub mod ListLemmas
 mod EditFacts
+mod BoundFacts
