@@ -4,3 +4,6 @@ pub mod Names
 mod RequestFacts
 mod TextFacts
 mod OutputFacts
+mod ReportFacts
+mod PlanFacts
+mod NamedFacts
