@@ -5,7 +5,7 @@ use Rattle.design_model.specs.declared.point.Point.{Point}
 use Rattle.picture_parts.specs.Colours.{colour_of_thread}
 use Rattle.picture_parts.specs.Parts.{escaped_text, filled, mm_text, part_text, text_after}
 use Rattle.picture_parts.specs.Sheets.{head_text, sheet_head, style_text}
-use Rattle.picture_parts.specs.declared.parts.Part.TheVariants.{At, Mm, Number}
+use Rattle.picture_parts.specs.declared.parts.Part.TheVariants.{At, Mm, Number, Escaped, Text}
 
 abbrev pub point : ℤ → ℤ → Point
 point x y = record { x = x; y = y }
@@ -44,3 +44,7 @@ known_after = refl
 pub known_parts : map part_text (Number 120 ∷ At (point (pos 5) (negsuc 6)) ∷ Mm 123 ∷ []) ≡ codes "120" ∷ codes "5,-7" ∷ codes "12.3" ∷ []
 unfolding digits
 known_parts = refl
+
+-- bytes stay, and those of a label are escaped
+pub known_bytes : (bytes : _) → (part_text (Text bytes) ≡ bytes.now) × (part_text (Escaped bytes) ≡ escaped_text bytes.now)
+known_bytes bytes = (refl, refl)
