@@ -1,8 +1,8 @@
 -- The change that each edit is, the bounds of its numbers, and the faults that are out of memory.
-use Rattle.std.proofs.Common.{◌≡◌, pos, true, false, [], ◌∷◌, map, refl, arith}
+use Rattle.std.proofs.Common.{◌≡◌, pos, true, false, [], ◌∷◌, map, refl, arith, length}
 use Rattle.design_edits.specs.declared.axis.Axis.TheVariants as axis
 use Rattle.design_edits.specs.declared.motion.Motion.TheVariants as motion
-use Rattle.edited_designs.specs.DesignChanges.{bared, beaned, carried, centred, cut, merged, moved, needled, pictured, scaled, threaded, tied}
+use Rattle.edited_designs.specs.DesignChanges.{bared, beaned, carried, centred, cut, merged, moved, needled, pictured, scaled, threaded, tied, named}
 use Rattle.edited_designs.specs.declared.design_edit.DesignEdit.TheVariants as edit
 use Rattle.edited_designs.specs.declared.design_fault.DesignFault.TheVariants as fault
 use Rattle.edited_designs.proofs.Names.{IsDesignEdit, bad_design_edit_is_out_of_memory, design_change}
@@ -33,6 +33,10 @@ known_motions = (λ is. omega (arith, is), λ is. omega (arith, is.0), λ is. om
 pub known_others : IsDesignEdit edit.Bare × IsDesignEdit edit.Centre × IsDesignEdit edit.DropEmpty × IsDesignEdit edit.Thumbnails
     × IsDesignEdit (edit.Bean 9)
 known_others = (tt, tt, tt, tt, tt)
+
+-- a label is renamed to its bytes, of which there are at most 16
+pub known_name : (label : _) → (design_change (edit.Name label) ≡ named label.now) × (IsDesignEdit (edit.Name label) → length label.now ≡ 17 → ⊥)
+known_name label = (refl, λ is long. omega (arith, long, is))
 
 pub known_faults : map bad_design_edit_is_out_of_memory
     (record { number = 1; fault = fault.Range 12 } ∷ record { number = 2; fault = fault.NoPlace 4 3 }
