@@ -11,3 +11,5 @@ pub mod WholeFiles
 pub mod WholeAnswers
 pub mod StreamLemmas
 mod ResultFacts
+mod EntryFacts
+mod ViewFacts
