@@ -6,7 +6,7 @@ use Rattle.line_graph.specs.declared.draw_kind.DrawKind.TheVariants as kind
 use Rattle.drawing_text.proofs.CanonicalTextFacts.{place}
 
 -- a text of that version: lines of a block with a cross at 10 0, and further lines
-abbrev text : List ℕ → List (List ℕ) → List ℕ
+abbrev pub text : List ℕ → List (List ℕ) → List ℕ
 text header more = flat_map (λ line. line ++ 10 ∷ []) (header ∷ codes "step 10" ∷ codes "color 1"
     ∷ codes "line 0 0 10 0 20 0" ∷ codes "line 10 5 10 0" ∷ more)
 
@@ -77,7 +77,7 @@ pub known_as2 : drawing_as2 (text (codes "redwork 3") []) ≡ Err (record { numb
 known_as2 = refl
 
 -- the canonical text with a start and an end, which is read as the drawing
-abbrev both_ends : DrawingValue
+abbrev pub both_ends : DrawingValue
 both_ends = crossed (spot 20 0 ∷ []) (spot 10 0 ∷ [])
 
 pub known_spelling3 : canonical_text3 both_ends ≡ flat_map (λ line. line ++ 10 ∷ []) (codes "redwork 3" ∷ codes "step 10"
@@ -97,7 +97,7 @@ unfolding digits
 known_end_block = refl
 
 -- the same lines before they are cut
-abbrev drawn_cross : DrawingValue
+abbrev pub drawn_cross : DrawingValue
 drawn_cross = record (crossed [] []) {
   lines = lines_through 0 ((place (pos 0) (pos 0) ∷ place (pos 10) (pos 0) ∷ place (pos 20) (pos 0) ∷ [])
       ∷ (place (pos 10) (pos 5) ∷ place (pos 10) (pos 0) ∷ []) ∷ []);
@@ -136,7 +136,7 @@ pub known_drawn_versions : (drawn_text (crossed (spot 20 0 ∷ []) []) ≡ canon
 known_drawn_versions = (refl, refl, refl)
 
 -- spots of one block, and of two blocks in order and not in order
-abbrev later_spot : Spot
+abbrev pub later_spot : Spot
 later_spot = record { block = 1; at = place (pos 3) (pos 4) }
 
 pub known_block_order : AreInBlockOrder (spot 20 0 ∷ spot 0 0 ∷ later_spot ∷ [])

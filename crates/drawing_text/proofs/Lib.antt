@@ -17,4 +17,6 @@ mod ValidTextLemmas
 mod DrawnDraftLemmas
 mod OrderedTextLemmas
 mod ValidTextFacts
+mod TextLawFacts
+mod ReadingFacts
 mod CoordinateLemmas
