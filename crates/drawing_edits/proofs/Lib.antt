@@ -18,3 +18,4 @@ mod PlaceFacts
 mod KeptEndFacts
 mod ValidRedrawFacts
 mod LawFacts
+mod RefutedEditFacts
