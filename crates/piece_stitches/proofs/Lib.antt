@@ -1,3 +1,4 @@
 pub mod SummaryLemmas
 pub mod PieceLemmas
 mod StitchFacts
+mod SumFacts
