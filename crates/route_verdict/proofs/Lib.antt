@@ -8,3 +8,4 @@ mod RedworkLemmas
 mod VerdictFacts
 mod RedworkFacts
 mod CorrectRouteFacts
+mod SewingStepFacts

@@ -7,11 +7,11 @@ use Rattle.design_model.specs.declared.act.Act.TheVariants as act
 use Rattle.route_verdict.specs.declared.verdict.Reason.TheVariants as reason
 use Rattle.route_verdict.specs.declared.verdict.Verdict.TheVariants as verdict
 
-abbrev at : ℕ → Point
+abbrev pub at : ℕ → Point
 at x = record { x = pos x; y = pos 0 }
 
 -- where two lists of acts begin to differ
-abbrev needle : ℕ → Act
+abbrev pub needle : ℕ → Act
 needle x = act.Needle (at x) false
 
 pub known_first_differing_act : (first_differing_act 1 (needle 3 ∷ act.Trim ∷ act.Stop ∷ []) (needle 3 ∷ act.Trim ∷ act.Stop ∷ []) ≡ None)
@@ -35,7 +35,7 @@ pub known_short : (first_differing_act 1 (needle 3 ∷ []) (needle 3 ∷ act.Tri
 known_short = (refl, refl)
 
 -- a stroke of four steps
-abbrev stroke : DrawingValue
+abbrev pub stroke : DrawingValue
 stroke = record {
   label = [];
   step = 10;
@@ -45,16 +45,16 @@ stroke = record {
   ends = [];
 }
 
-abbrev forth : ℕ → Pass
+abbrev pub forth : ℕ → Pass
 forth line = record { line = line; back = false }
 
-abbrev back : ℕ → Pass
+abbrev pub back : ℕ → Pass
 back line = record { line = line; back = true }
 
-abbrev cut : ℕ → List ℕ → Cut
+abbrev pub cut : ℕ → List ℕ → Cut
 cut weight members = record { weight = weight; members = members }
 
-abbrev said : ℕ → List Pass → Cut → PieceCert
+abbrev pub said : ℕ → List Pass → Cut → PieceCert
 said retraced walk c = record { retraced = retraced; walk = walk; cuts = c ∷ [] }
 
 abbrev both_ways : List Pass
