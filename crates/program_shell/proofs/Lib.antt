@@ -9,3 +9,6 @@ pub mod CallerLemmas
 mod ShellFacts
 mod OutcomeFacts
 mod PutFacts
+mod StepFacts
+mod InputFacts
+mod FinishFacts

@@ -4,18 +4,18 @@ use Rattle.program_shell.proofs.Names.{Blame, Rose, Files, SinkView, StoreView, 
 use Rattle.program_shell.specs.declared.status.Status.TheVariants as status
 
 -- a sink that took these bytes
-abbrev took : List ℕ → SinkView
+abbrev pub took : List ℕ → SinkView
 took bytes = record { taken = Some bytes; faults = 0 }
 
 -- a store with these visible files, and as many faults
-abbrev storing : Files → ℕ → StoreView
+abbrev pub storing : Files → ℕ → StoreView
 storing files faults = record { files = Some files; faults = faults; blame = None }
 
 -- no file, and one content under each name
-abbrev no_file : Files
+abbrev pub no_file : Files
 no_file = λ name. None
 
-abbrev one_byte : Files
+abbrev pub one_byte : Files
 one_byte = λ name. Some (7 ∷ [])
 
 -- views that differ
@@ -25,7 +25,7 @@ none_taken bytes is = let same : Some [] ≡ Some (1 ∷ bytes) = ap (λ (s : Si
 faults_rose : storing no_file 1 ≡ storing no_file 0 → ⊥
 faults_rose is = let same : 1 ≡ 0 = ap (λ (s : StoreView). s.faults) is in omega (arith, same)
 
-none_is_some : {T : Type 0} (value : T) → None ≡ Some value → ⊥
+pub none_is_some : {T : Type 0} (value : T) → None ≡ Some value → ⊥
 none_is_some value is = cc
 
 -- two names, and an output under each
@@ -165,7 +165,7 @@ pub known_print_before_write : (Is : ProductValue → Type 0) (out out' err : Si
 known_print_before_write Is out out' err is = one_is_none 0 is.wrote.faults
 
 -- A program of one order.
-abbrev one_plan : Plan → Program ℕ
+abbrev pub one_plan : Plan → Program ℕ
 one_plan plan = record { name = codes "p"; usage = codes "p"; plan = λ order. plan; outputs = λ order. [] }
 
 -- A run that is done was requested, made a product, wrote it, printed its report, and reported nothing.
