@@ -10,4 +10,5 @@ pub mod WalkCostLemmas
 pub mod SameWalkLemmas
 mod TravelFacts
 mod NearFacts
+mod NodeFacts
 mod NearLawFacts
