@@ -4,3 +4,4 @@ pub mod MovedLemmas
 pub mod OrderedLemmas
 mod CommentFacts
 mod OrderFacts
+mod CommentLawFacts
