@@ -6,3 +6,4 @@ mod RoomListLemmas
 mod StoreLemmas
 mod ReadingLemmas
 mod TaskFacts
+mod ReplyFacts

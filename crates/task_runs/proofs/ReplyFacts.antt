@@ -1,0 +1,86 @@
+-- Worked values of tasks and replies, and what the relations on them exclude.
+use Rattle.std.proofs.Common.{◌≡◌, ◌≢◌, ◌∙◌, ℕ, false, List, length, [], ◌∷◌, Option, Some, None, Result, Ok, Err, map, string_bytes, refl, sym}
+use Rattle.outside_io.specs.Files.{Files}
+use Rattle.outside_io.specs.MemStores.{empty_store, files_of, room_raised}
+use Rattle.program_shell.specs.declared.status.Status.TheVariants as status
+use Rattle.task_runs.specs.NameLists.{ListsFiles, ListsRooms}
+use Rattle.task_runs.specs.Outcomes.{IsReply, IsReturned, ReturnsOutcome, RunClause}
+use Rattle.task_runs.specs.Packing.{FileValue, ReplyValue, packed_reply}
+use Rattle.task_runs.specs.Replies.{EachChangeIsListed, IsAmong, changed_files, is_given, reply_of}
+use Rattle.task_runs.specs.TaskReading.{Read}
+use Rattle.task_runs.specs.TaskValues.{IsReadAs, file_value, joined, task_value}
+use Rattle.task_runs.specs.TaskViews.{StoreHasTheFiles, content_in, store_of}
+use Rattle.task_runs.specs.declared.task.Task.{Task}
+use Rattle.task_runs.specs.declared.task_fault.TaskFault.{TaskFault}
+use Rattle.task_runs.specs.declared.task_fault.TaskFault.TheVariants as fault
+use Rattle.task_runs.specs.declared.task.TaskFile.{TaskFile}
+
+abbrev a : List ℕ
+a = 97 ∷ []
+
+abbrev b : List ℕ
+b = 98 ∷ []
+
+-- a store with room for the name `b` alone: a list without it doesn't list the rooms
+pub known_rooms : ListsRooms (a ∷ []) (room_raised empty_store b 3) → ⊥
+known_rooms lists = let none : ◌≡◌ {A = Option ℕ} (Some 3) None = lists b refl in absurd (cc)
+
+-- a task as contracts see it
+pub known_task : (task : Task) (file : TaskFile) → ((task_value task).words ≡ map string_bytes task.words)
+    × ((task_value task).files ≡ map file_value task.files)
+    × (file_value file ≡ record { name = file.name.now; content = file.content.now })
+known_task task file = (refl, refl, refl)
+
+-- what is read is seen so, and has no other fault than its own, unless it is out of memory
+abbrev Reads : Result ℕ TaskFault → Result (List ℕ) TaskFault → Type 0
+Reads said result = IsReadAs (λ (bytes : List ℕ). length bytes) said result
+
+pub known_read : Reads (Ok 2) (Ok (7 ∷ 8 ∷ [])) × (Reads (Ok 3) (Ok (7 ∷ 8 ∷ [])) → ⊥) × (Reads (Ok 2) (Err fault.CutOff) → ⊥)
+    × (Reads (Err fault.NotText) (Err fault.CutOff) → ⊥) × Reads (Ok 2) (Err fault.Memory)
+known_read = (refl, λ is. other is, λ is. cut_off is, λ is. fault_is is, tt)
+  where
+    other : ◌≡◌ {A = Result ℕ TaskFault} (Ok 3) (Ok 2) → ⊥
+    other is = cc
+
+    cut_off : ◌≡◌ {A = Result ℕ TaskFault} (Ok 2) (Err fault.CutOff) → ⊥
+    cut_off is = cc
+
+    fault_is : ◌≡◌ {A = Result ℕ TaskFault} (Err fault.NotText) (Err fault.CutOff) → ⊥
+    fault_is is = cc
+
+-- items with others before them, and the bytes that are left
+abbrev items : List ℕ → Result (Read (List ℕ)) TaskFault
+items value = Ok (record { value = value; rest = 5 ∷ [] })
+
+pub known_joined : (joined {T = ℕ} (1 ∷ 2 ∷ []) (items (3 ∷ [])) ≡ items (1 ∷ 2 ∷ 3 ∷ []))
+    × (joined {T = ℕ} (1 ∷ []) (Err fault.CutOff) ≡ Err fault.CutOff)
+known_joined = (refl, refl)
+
+-- the store of files has the later of two with one name, and no other file
+abbrev twice : List FileValue
+twice = record { name = a; content = 1 ∷ [] } ∷ record { name = a; content = 3 ∷ [] } ∷ []
+
+pub refuted_earlier_file : StoreHasTheFiles → files_of (store_of twice) a ≡ Some (1 ∷ []) → ⊥
+refuted_earlier_file law is = let same : ◌≡◌ {A = Option (List ℕ)} (Some (3 ∷ [])) (Some (1 ∷ [])) = sym (law twice a) ∙ is in absurd (cc)
+
+pub applied_files : StoreHasTheFiles → (files : List FileValue) (name : List ℕ) (other : Option (List ℕ))
+    → other ≢ content_in files name → files_of (store_of files) name ≡ other → ⊥
+applied_files law files name other differ is = differ (sym is ∙ law files name)
+
+-- a file that a run left is in the reply, where its name is listed and it wasn't given so
+pub refuted_unlisted : EachChangeIsListed → (given : List FileValue) (left : Files) (names : List (List ℕ)) (name content : List ℕ)
+    → ListsFiles names left → left name ≡ Some content → is_given (content_in given name) content ≡ false
+    → (IsAmong (record { name = name; content = content }) (changed_files given left names) → ⊥) → ⊥
+refuted_unlisted law given left names name content lists is changed never = never (law given left names name content lists is changed)
+
+-- the reply of a refused run: its exit code, what it printed and reported, and the file `b` that it left
+pub known_reply : reply_of (record { words = []; files = record { name = a; content = 1 ∷ [] } ∷ [] }) status.Refused
+    (store_of (record { name = a; content = 1 ∷ [] } ∷ record { name = b; content = 2 ∷ [] } ∷ [])) (a ∷ b ∷ [])
+    (record { bytes = 5 ∷ []; faults = 0 }) (record { bytes = 6 ∷ 7 ∷ []; faults = 0 })
+    ≡ record { outcome = 1; out = 5 ∷ []; err = 6 ∷ 7 ∷ []; files = record { name = b; content = 2 ∷ [] } ∷ [] }
+known_reply = refl
+
+-- what a call returns is a reply to the request, packed
+pub known_outcome_returned : (Ends : RunClause) (request before after : List ℕ) (count : ℕ) → ReturnsOutcome Ends request before after count
+    → (reply : ReplyValue) × IsReply Ends request reply × IsReturned (packed_reply reply) before after count
+known_outcome_returned Ends request before after count returns = (returns.reply, returns.is, returns.returned)
