@@ -1,6 +1,9 @@
 -- Lines that aren't the first bad one of a text, and what the theorems on certificate texts exclude.
-use Rattle.std.proofs.Common.{◌≡◌, ◌≢◌, ℕ, ◌-◌, ◌<◌, ◌≤◌, List, [], ◌∷◌, ◌++◌, All, Ok, Err, codes, length, refl, arith}
+use Rattle.std.proofs.Common.{◌≡◌, ◌≢◌, ℕ, ◌-◌, ◌<◌, ◌≤◌, List, [], ◌∷◌, ◌++◌, All, Result, Ok, Err, codes, length, refl, arith}
 use Rattle.certificate_text.proofs.Names.{PieceCert, Cut, HasCanonicalText, certificate_text, AreFew, HasFewItems, HasSmallNumbers, IsCertificatePrefix, IsFirstBadLine, cert_of, first_lines, parts_between, PiecesHaveOneText, ReadPiecesCanBePrinted, ReportsFirstBadLine, TextOfPiecesIsRead}
+use Rattle.certificate_text.specs.ReadCertificates.{ReadsCert}
+use Rattle.certificate_text.specs.declared.reading.CertFault.TheVariants as fault
+use Rattle.odd_cuts.specs.declared.certificate.Cert.{Cert}
 
 -- a first line, a line of another kind, and an end
 abbrev text : List ℕ
@@ -65,3 +68,20 @@ known_few pieces are = (λ is. omega (arith, is, are.few), are.each)
 pub known_few_items : (c : PieceCert) → HasFewItems c → (length c.walk ≡ 4294967295 → ⊥) × (length c.cuts ≡ 4294967295 → ⊥)
     × All (λ (cut : Cut). length cut.members < 4294967295) c.cuts
 known_few_items c has = (λ is. omega (arith, is, has.passes), λ is. omega (arith, is, has.cuts), has.members)
+
+-- a reader returns the pieces that the text denotes, or its first bad line, and nothing else but a lack of memory
+pub known_reads : (pieces : List PieceCert) (number : ℕ) (cert : Cert)
+    → (ReadsCert (Ok pieces) (Ok cert) → ◌≡◌ {A = Result (List PieceCert) ℕ} (Ok pieces) (Ok cert.pieces))
+    × (ReadsCert (Err 3) (Err (fault.BadLine number)) → ◌≡◌ {A = Result (List PieceCert) ℕ} (Err 3) (Err number))
+    × ReadsCert (Ok pieces) (Err fault.Memory)
+known_reads pieces number cert = (λ reads. reads, λ reads. reads, tt)
+
+pub known_not_read : (pieces : List PieceCert) (cert : Cert) → (ReadsCert (Ok pieces) (Err (fault.BadLine 3)) → ⊥)
+    × (ReadsCert (Err 3) (Ok cert) → ⊥)
+known_not_read pieces cert = (λ reads. bad reads, λ reads. good reads)
+  where
+    bad : ◌≡◌ {A = Result (List PieceCert) ℕ} (Ok pieces) (Err 3) → ⊥
+    bad is = cc
+
+    good : ◌≡◌ {A = Result (List PieceCert) ℕ} (Err 3) (Ok cert.pieces) → ⊥
+    good is = cc
