@@ -1,4 +1,5 @@
 mod ReportLemmas
 mod OddCountLemmas
 mod ReportFacts
+mod SumFacts
 mod ReasonFacts
