@@ -1,2 +1,3 @@
 pub mod WordFacts
+mod ValidFacts
 pub mod CallerLemmas
