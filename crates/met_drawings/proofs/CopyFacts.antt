@@ -1,9 +1,14 @@
 -- Worked values of lines without copies, in tenths of a millimetre.
-use Rattle.std.proofs.Common.{◌≡◌, ℕ, pos, [], ◌∷◌, ◌++◌, refl}
+use Rattle.std.proofs.Common.{◌≡◌, ◌≢◌, ◌∙◌, ℕ, pos, true, false, List, [], ◌∷◌, ◌++◌, length, map, ap, sym, refl, arith}
 use Rattle.design_model.specs.declared.point.Point.{Point}
+use Rattle.line_graph.specs.declared.draw_kind.DrawKind.TheVariants as kind
+use Rattle.line_sections.specs.Lines.{LineValue}
 use Rattle.line_sections.specs.Sections.{lines_through}
 use Rattle.met_drawings.specs.Copies.{passed_segment, uncopied_lines}
-use Rattle.met_drawings.specs.SegmentLaws.{first_segments}
+use Rattle.met_drawings.specs.MetDrawings.{meet_is_out_of_memory}
+use Rattle.met_drawings.specs.SegmentLaws.{SegmentsAreLeftOnce, first_segments, segments_passed}
+use Rattle.met_drawings.specs.declared.meet_fault.MeetFault.TheVariants as fault
+use Rattle.met_drawings.specs.declared.passed_segments.PassedSegment.{PassedSegment}
 
 abbrev at : ℕ → ℕ → Point
 at x y = record { x = pos x; y = pos y }
@@ -32,3 +37,27 @@ pub known_firsts : first_segments [] (passed_segment 0 (at 0 0) (at 9 1) ∷ pas
     ∷ passed_segment 0 (at 9 1) (at 0 0) ∷ passed_segment 1 (at 0 0) (at 9 1) ∷ passed_segment 0 (at 0 0) (at 9 1) ∷ [])
     ≡ passed_segment 0 (at 0 0) (at 9 1) ∷ passed_segment 0 (at 9 1) (at 5 5) ∷ passed_segment 1 (at 0 0) (at 9 1) ∷ []
 known_firsts = refl
+
+-- a copy in the other direction isn't left as a segment
+abbrev copied : List LineValue
+copied = lines_through 0 ((at 0 0 ∷ at 9 1 ∷ []) ∷ (at 9 1 ∷ at 0 0 ∷ []) ∷ [])
+
+pub refuted_copy : SegmentsAreLeftOnce → segments_passed (uncopied_lines copied)
+    ≡ passed_segment 0 (at 0 0) (at 9 1) ∷ passed_segment 0 (at 9 1) (at 0 0) ∷ [] → ⊥
+refuted_copy law is =
+    let counts : 2 ≡ 1 = ap (λ (segments : List PassedSegment). length segments) (sym is ∙ law copied) in omega (arith, counts)
+
+-- the segments of lines that are left are each the first in its block, in order
+pub applied_once : SegmentsAreLeftOnce → (lines : List LineValue) (other : List PassedSegment)
+    → other ≢ first_segments [] (segments_passed lines) → segments_passed (uncopied_lines lines) ≡ other → ⊥
+applied_once law lines other differ is = differ (sym is ∙ law lines)
+
+-- the segments of two lines in two blocks
+pub known_passed : segments_passed (lines_through 3 ((at 0 0 ∷ at 9 1 ∷ at 5 5 ∷ []) ∷ []) ++ lines_through 4 ((at 5 5 ∷ at 9 1 ∷ []) ∷ []))
+    ≡ passed_segment 3 (at 0 0) (at 9 1) ∷ passed_segment 3 (at 9 1) (at 5 5) ∷ passed_segment 4 (at 5 5) (at 9 1) ∷ []
+known_passed = refl
+
+-- only a lack of memory is out of memory
+pub known_out_of_memory : map meet_is_out_of_memory (fault.Limit kind.Memory ∷ fault.Limit kind.TooManyLines
+    ∷ fault.Vanished (record { block = 0; line = 0 }) ∷ []) ≡ true ∷ false ∷ false ∷ []
+known_out_of_memory = refl
