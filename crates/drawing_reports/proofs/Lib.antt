@@ -1,3 +1,4 @@
 pub mod PlaceLemmas
 mod LookFacts
+mod ReportFacts
 mod SpacingFacts

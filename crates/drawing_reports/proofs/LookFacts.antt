@@ -11,7 +11,7 @@ use Rattle.line_meetings.specs.declared.meeting.MeetingKind.TheVariants as meeti
 use Rattle.line_graph.specs.PieceGraphs.{PieceValue}
 use Rattle.piece_stitches.specs.declared.counting.PieceStitches.{PieceStitches}
 
-abbrev stroke : PieceValue
+abbrev pub stroke : PieceValue
 stroke = record {
   block = 1;
   lines = 4 ∷ [];
@@ -22,7 +22,7 @@ stroke = record {
   end = None;
 }
 
-abbrev its_stitches : PieceStitches
+abbrev pub its_stitches : PieceStitches
 its_stitches = record {
   summary = record { stitches = 2; shortest = 999; longest = 2599; short = 1; thread = 3598 };
   travel = 12300;
@@ -44,7 +44,7 @@ pub known_head :
 unfolding digits
 known_head = refl
 
-abbrev found : MeetingKind → Bool → Meeting
+abbrev pub found : MeetingKind → Bool → Meeting
 found kind is_end = record {
   kind = kind;
   block = 1;
