@@ -1,4 +1,5 @@
 mod LoadingFacts
+mod FoundFacts
 pub mod LoadLemmas
 mod FaultLemmas
 pub mod CallerLemmas
