@@ -1,7 +1,8 @@
 -- Worked values of views, and of what contracts see of files.
-use Rattle.std.proofs.Common.{◌≡◌, Bool, false, [], ◌∷◌, Option, Some, None, if◌then◌else◌, bytes_eq, refl, sym, ap, is_some, true≢false}
+use Rattle.std.proofs.Common.{◌≡◌, Bool, false, [], ◌∷◌, Option, Some, None, if◌then◌else◌, bytes_eq, refl, sym, ap, is_some, true≢false, ℕ, List, ◌++◌, take}
 use Rattle.outside_io.proofs.Names.{Files, read_call, write_call}
 use Rattle.outside_io.specs.Blames.{blame_of}
+use Rattle.outside_io.specs.FileParts.{IsContentPrefix, IsNextPart}
 use Rattle.outside_io.specs.Files.{FileExists}
 use Rattle.outside_io.specs.MemSinks.{sink_view}
 use Rattle.outside_io.specs.Views.{hidden_bytes, hidden_files}
@@ -39,3 +40,9 @@ known_exists visible is = ap (has_a) (sym is)
 
 pub known_exists_not : FileExists (Some only_a) (98 ∷ []) → ⊥
 known_exists_not exists = true≢false (sym (exists only_a refl))
+
+-- the next part of a file is what comes after the bytes before it, and none is left at its end
+pub known_next_part : (before buffer : List ℕ) (count : ℕ) → IsNextPart (Some only_a) (97 ∷ []) before buffer count
+    → IsContentPrefix (Some (1 ∷ [])) (before ++ take count buffer)
+    × (count ≡ 0 → ◌≡◌ {A = Option (List ℕ)} (Some (1 ∷ [])) (Some before))
+known_next_part before buffer count is = (is.on only_a refl, λ none. is.end none only_a refl)
