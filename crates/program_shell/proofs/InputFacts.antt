@@ -1,6 +1,6 @@
 -- What reading and parsing an input exclude.
-use Rattle.std.proofs.Common.{◌≡◌, ℕ, ◌≤◌, ◌∷◌, [], List, length, Result, Ok, Err, Some, refl, sym, arith, ⊎_elim}
-use Rattle.program_shell.proofs.Names.{Rose, StoreView, read_call, ParsesInput, ReadsInput}
+use Rattle.std.proofs.Common.{◌≡◌, ℕ, ◌≤◌, ◌∷◌, [], List, length, Result, Ok, Err, Some, refl, sym, arith, ⊎_elim, None, true≢false}
+use Rattle.program_shell.proofs.Names.{LacksInput, ParsesInput, Plan, ReadsInput, Rose, StoreView, read_call, refuses}
 use Rattle.program_shell.proofs.OutcomeFacts.{no_file, none_is_some, one_byte, storing}
 use Rattle.program_shell.specs.FileTexts.{too_long_text}
 use Rattle.program_shell.specs.StepOutcomes.{IsRefusedInput}
@@ -76,3 +76,12 @@ pub known_unread : (name : List ℕ) (lost : _) (s s' : StoreView)
     × (ParsesInput counted text_of name s s' (Err (failure.ReadFailed lost)) → ReadsInput name s s' (Err (failure.ReadFailed lost)))
     × (ParsesInput counted text_of name s s' (Err failure.Memory) → s' ≡ s)
 known_unread name lost s s' = (λ parses. parses, λ parses. parses, λ parses. parses, λ parses. parses)
+
+-- an input that the plan lacks is no visible file, and one that the plan reads
+pub known_lacked : (plan : Plan) (text name : List ℕ) → (LacksInput plan (Some one_byte) name → ⊥)
+    × (LacksInput plan None name → ⊥) × (LacksInput (refuses text) (Some no_file) name → ⊥)
+known_lacked plan text name = (
+  λ lacks. none_is_some (7 ∷ []) (sym (lacks.lacks.missing one_byte refl)),
+  λ lacks. true≢false (sym lacks.lacks.visible),
+  λ lacks. lacks.attempted,
+)
