@@ -11,4 +11,5 @@ pub mod SameWalkLemmas
 mod TravelFacts
 mod NearFacts
 mod NodeFacts
+mod NearDrawingFacts
 mod NearLawFacts
