@@ -1,8 +1,8 @@
 -- Worked values of the steps of sewing and of comparing acts, and what the theorems on verdicts exclude.
-use Rattle.std.proofs.Common.{◌≡◌, ℕ, ◌<◌, true, false, List, [], ◌∷◌, Option, Some, None, Ok, Err, length, ap, refl, arith}
+use Rattle.std.proofs.Common.{◌≡◌, ℕ, ◌<◌, true, false, List, [], ◌∷◌, Option, Some, None, Ok, Err, length, ap, refl, arith, All, ◌+◌, ◌^◌}
 use Rattle.design_model.specs.declared.act.Act.TheVariants as act
 use Rattle.design_model.specs.declared.act.NumberedAct.{NumberedAct}
-use Rattle.route_verdict.proofs.Names.{All-head, AllDrawn, ArePieces, AreDrawn, CorrectRoutesAreAccepted, DesignValue, DrawingValue, IsCorrectRoute, IsLeastRedwork, IsVerdict, KeepsDrawingLimits, Pass, PieceCert, Stitch, Stop, Trim, YesIsLeastRedwork, later_needles, run_commands}
+use Rattle.route_verdict.proofs.Names.{All-head, AllDrawn, Cut, HasShortLists, ArePieces, AreDrawn, CorrectRoutesAreAccepted, DesignValue, DrawingValue, IsCorrectRoute, IsLeastRedwork, IsVerdict, KeepsDrawingLimits, Pass, PieceCert, Stitch, Stop, Trim, YesIsLeastRedwork, later_needles, run_commands}
 use Rattle.route_verdict.proofs.VerdictFacts.{at, back, cut, forth, needle, said, stroke}
 use Rattle.route_verdict.specs.ActSteps.{ComparesActs, begins_with_act, run_acts}
 use Rattle.route_verdict.specs.declared.verdict.Verdict.TheVariants as verdict
@@ -68,3 +68,8 @@ pub refuted_yes : YesIsLeastRedwork → (d : DrawingValue) (design : DesignValue
     × (IsLeastRedwork d design certs → (IsVerdict d design certs verdict.Yes → ⊥) → ⊥)
 refuted_yes law d design certs limits =
     (λ yes never. never ((law d design certs limits).0 yes), λ least never. never ((law d design certs limits).1 least))
+
+-- the members of cuts in short lists are below the greatest 32-bit number
+pub known_numbered : (c : PieceCert) → HasShortLists c
+    → All (λ (cut_of : Cut). All (λ (j : ℕ). j + 1 < 2 ^ 32) cut_of.members) c.cuts
+known_numbered c short = short.numbered
