@@ -95,7 +95,8 @@ known_reads d lines = (λ is. wrong is, λ is. right is, λ is. wrong_lines is, 
     right_lines : ◌≡◌ {A = Result DrawnLines DrawFault} (Err bad_word) (Ok lines) → ⊥
     right_lines is = cc
 
-pub known_reads_same : (d other : DrawingValue) (lines more : DrawnLines) → (ReadsDrawing (Ok d) (Ok other) → ◌≡◌ {A = Result DrawingValue DrawFault} (Ok d) (Ok other))
+pub known_reads_same : (d other : DrawingValue) (lines more : DrawnLines)
+    → (ReadsDrawing (Ok d) (Ok other) → ◌≡◌ {A = Result DrawingValue DrawFault} (Ok d) (Ok other))
     × (ReadsLines (Ok lines) (Ok more) → ◌≡◌ {A = Result DrawnLines DrawFault} (Ok lines) (Ok more))
 known_reads_same d other lines more = (λ is. is, λ is. is)
 
