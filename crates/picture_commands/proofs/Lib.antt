@@ -2,3 +2,5 @@ mod FormatLemmas
 mod ParsedLemmas
 mod PictureLemmas
 mod WordFacts
+mod PictureFacts
+mod RequestFacts
