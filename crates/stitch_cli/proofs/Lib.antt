@@ -18,6 +18,7 @@ mod SampleFacts
 mod WantFacts
 mod RefutedFacts
 mod ProductFacts
+mod WholeProductFacts
 mod PieceSizes
 mod CertificateLengths
 mod HeadlineLemmas
@@ -27,4 +28,5 @@ pub mod SmallestFacts
 pub mod RouteLeftFacts
 pub mod RefutedRouteFacts
 mod RefutedRunFacts
+mod StitchRunFacts
 mod StitchRunLemmas
