@@ -37,7 +37,8 @@ named name is = (λ none. omega (arith, none, is.some), λ long. omega (arith, l
 pub known_names : (names : FileNames) (limits : ReviewLimits) (threads : Bool)
     → (HasDesignNames (request.Look names.input limits) → length names.input.now ≡ 0 → ⊥)
     × (HasDesignNames (request.Pass names.input limits) → length names.input.now ≡ 0 → ⊥)
-    × (HasDesignNames (request.Compare names.output names.input threads) → (length names.output.now ≡ 0 → ⊥) × (length names.input.now ≡ 4097 → ⊥))
+    × (HasDesignNames (request.Compare names.output names.input threads) → (length names.output.now ≡ 0 → ⊥)
+    × (length names.input.now ≡ 4097 → ⊥))
     × (HasDesignNames (request.Threads names.output) → length names.output.now ≡ 4097 → ⊥)
 known_names names limits threads = (
   λ has. (named names.input.now has).0,

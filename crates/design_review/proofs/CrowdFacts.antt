@@ -78,7 +78,8 @@ pub known_piece_start : IsPieceWithin needles (record nothing_sewn { needles = 2
 known_piece_start is = omega (arith, is.start)
 
 -- no more needles, pieces or stops are sewn than there are acts
-pub known_sewn : (HasSewn 5 (record nothing_sewn { needles = 6 }) → ⊥) × (HasSewn 5 (record nothing_sewn { needles = 2; before_piece = 3 }) → ⊥)
+pub known_sewn : (HasSewn 5 (record nothing_sewn { needles = 6 }) → ⊥) ×
+    (HasSewn 5 (record nothing_sewn { needles = 2; before_piece = 3 }) → ⊥)
     × (HasSewn 5 (record nothing_sewn { pieces = 6 }) → ⊥) × (HasSewn 5 (record nothing_sewn { stops = 6 }) → ⊥)
 known_sewn = (
   λ has. omega (arith, has.needles),

@@ -113,7 +113,8 @@ pub known_cut : (output report : List ℕ) (c : TextComments) (d : DrawingValue)
     × (p ≡ one_file_product output (cut_text c d) report)
 known_cut output report c d p is = (is.same, is.again, is.made)
 
-pub known_joined : (drawn joined : DrawingValue) → IsWhole drawn joined → IsJoinedFrom drawn joined × HasOrderedEnds joined × HasNoEnds drawn
+pub known_joined : (drawn joined : DrawingValue) → IsWhole drawn joined → IsJoinedFrom drawn joined × HasOrderedEnds joined
+    × HasNoEnds drawn
 known_joined drawn joined is = (is.whole, is.ordered, is.no_ends)
 
 -- The report of `free` is about the ends that were found.

@@ -28,7 +28,8 @@ pub known_coordinate : BeginsWithCoordinate (codes " 12  7 x") (Ok (pos 12)) (co
 known_coordinate = record { word = codes "12"; words = refl; value = refl }
 
 pub known_other_coordinate : (rest : List ℕ) → BeginsWithCoordinate (codes "12 7") (Err kind.BadNumber) rest → ⊥
-known_other_coordinate rest is = other (is.value ∙ ap (λ (word : List ℕ). parsed_coordinate (parsed_whole word)) (sym (ap first_word is.words)))
+known_other_coordinate rest is = other (is.value ∙ ap (λ (word : List ℕ). parsed_coordinate (parsed_whole word))
+    (sym (ap first_word is.words)))
   where
     other : ◌≡◌ {A = Result ℤ DrawKind} (Err kind.BadNumber) (Ok (pos 12)) → ⊥
     other same = cc

@@ -45,7 +45,10 @@ known_written state count is = (is.stands, is.long)
 
 -- a stitch of 122 is refused
 pub known_not_written : (state : EncoderState) (count : ℕ)
-    → IsWritten (record design { commands = command.Stitch (point (pos 0) (pos 0)) ∷ command.Stitch (point (pos 122) (pos 0)) ∷ [] }) state count
+    → IsWritten (record design {
+      commands = command.Stitch (point (pos 0) (pos 0)) ∷ command.Stitch
+          (point (pos 122) (pos 0)) ∷ [];
+    }) state count
     → ⊥
 known_not_written state count is = some is.passed
   where

@@ -7,7 +7,8 @@ use Rattle.edited_designs.specs.declared.design_edit.DesignEdit.TheVariants as e
 use Rattle.edited_designs.specs.declared.design_fault.DesignFault.TheVariants as fault
 use Rattle.edited_designs.proofs.Names.{IsDesignEdit, bad_design_edit_is_out_of_memory, design_change}
 
-pub known_changes : map design_change (edit.Move (motion.Mirror axis.Y) ∷ edit.Thread 3 9 ∷ edit.Tie 7 ∷ edit.Bare ∷ edit.Centre ∷ edit.Cut 60
+pub known_changes : map design_change
+    (edit.Move (motion.Mirror axis.Y) ∷ edit.Thread 3 9 ∷ edit.Tie 7 ∷ edit.Bare ∷ edit.Centre ∷ edit.Cut 60
     ∷ edit.Carry 5 ∷ edit.Merge 3 ∷ edit.Bean 2 ∷ edit.Scale 150 ∷ edit.DropEmpty ∷ edit.Thumbnails ∷ [])
     ≡ moved (motion.Mirror axis.Y) ∷ threaded 3 9 ∷ tied 7 ∷ bared ∷ centred ∷ cut 60 ∷ carried 5 ∷ merged 3 ∷ beaned 2 ∷ scaled 150
     ∷ needled ∷ pictured ∷ []
@@ -35,7 +36,8 @@ pub known_others : IsDesignEdit edit.Bare × IsDesignEdit edit.Centre × IsDesig
 known_others = (tt, tt, tt, tt, tt)
 
 -- a label is renamed to its bytes, of which there are at most 16
-pub known_name : (label : _) → (design_change (edit.Name label) ≡ named label.now) × (IsDesignEdit (edit.Name label) → length label.now ≡ 17 → ⊥)
+pub known_name : (label : _) → (design_change (edit.Name label) ≡ named label.now)
+    × (IsDesignEdit (edit.Name label) → length label.now ≡ 17 → ⊥)
 known_name label = (refl, λ is long. omega (arith, long, is))
 
 pub known_faults : map bad_design_edit_is_out_of_memory

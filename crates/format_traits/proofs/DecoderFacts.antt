@@ -37,7 +37,8 @@ known_passed old new so_far more passes = (
 )
 
 -- no more is pending than there was
-pub known_passed_few : (old new : DecoderState) (so_far : DecodedSoFar) → PassesChunk old new so_far 100 (7 ∷ []) (9 ∷ []) (7 ∷ 8 ∷ 9 ∷ []) → ⊥
+pub known_passed_few : (old new : DecoderState) (so_far : DecodedSoFar) → PassesChunk old new so_far 100 (7 ∷ []) (9 ∷ []) (7 ∷ 8 ∷ 9 ∷ [])
+    → ⊥
 known_passed_few old new so_far passes = omega (arith, passes.few)
 
 -- A feed from 100 on that took five bytes, of which two are pending, has its result so far; further bytes follow those at 103.

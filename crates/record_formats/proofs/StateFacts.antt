@@ -29,10 +29,17 @@ stitches at bytes = next at (event.Stitch (point (pos at) (pos 0))) (over false)
 pub known_rest : ((record_state_at two_bytes stitches design (point (pos 3) (pos 4)) (stage.Header 1)).rest 5 (65 ∷ 8 ∷ 1 ∷ [])
     ≡ layout_reads two_bytes 5 (65 ∷ 8 ∷ 1 ∷ []))
     × ((record_state_at two_bytes stitches design (point (pos 3) (pos 4)) (stage.Records true)).rest 5 (7 ∷ [])
-    ≡ Ok (record { design = record design { commands = Stitch (point (pos 3) (pos 4)) ∷ Stitch (point (pos 8) (pos 4)) ∷ [] }; ended = false }))
+    ≡ Ok (record {
+      design = record design {
+        commands = Stitch (point (pos 3) (pos 4)) ∷ Stitch
+            (point (pos 8) (pos 4)) ∷ [];
+      };
+      ended = false;
+    }))
     × ((record_state_at two_bytes stitches design (point (pos 3) (pos 4)) stage.Over).rest 5 (7 ∷ [])
     ≡ Ok (record { design = design; ended = true }))
-    × ((record_state_at two_bytes stitches design (point (pos 3) (pos 4)) (stage.Refused (fault.Control 7))).rest 5 (7 ∷ []) ≡ Err (fault.Control 7))
+    × ((record_state_at two_bytes stitches design (point (pos 3) (pos 4)) (stage.Refused (fault.Control 7))).rest 5 (7 ∷ [])
+    ≡ Err (fault.Control 7))
 known_rest = (refl, refl, refl, refl)
 
 pub known_decoded : ((record_state_at two_bytes stitches design (point (pos 3) (pos 4)) (stage.Header 1)).decoded 5 (65 ∷ 8 ∷ 1 ∷ [])
@@ -40,7 +47,8 @@ pub known_decoded : ((record_state_at two_bytes stitches design (point (pos 3) (
     × ((record_state_at two_bytes stitches design (point (pos 3) (pos 4)) (stage.Records true)).decoded 5 (7 ∷ [])
     ≡ Stitch (point (pos 3) (pos 4)) ∷ Stitch (point (pos 8) (pos 4)) ∷ [])
     × ((record_state_at two_bytes stitches design (point (pos 3) (pos 4)) stage.Over).decoded 5 (7 ∷ []) ≡ design.commands)
-    × ((record_state_at two_bytes stitches design (point (pos 3) (pos 4)) (stage.Refused (fault.Control 7))).decoded 5 (7 ∷ []) ≡ design.commands)
+    × ((record_state_at two_bytes stitches design (point (pos 3) (pos 4)) (stage.Refused (fault.Control 7))).decoded 5 (7 ∷ [])
+    ≡ design.commands)
 known_decoded = (refl, refl, refl, refl)
 
 -- a file that ends in its header is short, between records it may have an end, and after the end it has one

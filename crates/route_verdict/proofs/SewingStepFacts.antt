@@ -8,7 +8,8 @@ use Rattle.route_verdict.specs.ActSteps.{ComparesActs, begins_with_act, run_acts
 use Rattle.route_verdict.specs.declared.verdict.Verdict.TheVariants as verdict
 
 -- the first act alone is compared, and of no acts none is the expected one
-pub known_begins : (begins_with_act (needle 3 ∷ act.Trim ∷ []) (needle 3) ≡ true) × (begins_with_act (needle 3 ∷ act.Trim ∷ []) act.Trim ≡ false)
+pub known_begins : (begins_with_act (needle 3 ∷ act.Trim ∷ []) (needle 3) ≡ true)
+    × (begins_with_act (needle 3 ∷ act.Trim ∷ []) act.Trim ≡ false)
     × (begins_with_act (act.Needle (at 3) true ∷ []) (needle 3) ≡ false) × (begins_with_act [] act.Stop ≡ false)
 known_begins = (refl, refl, refl, refl)
 

@@ -53,7 +53,8 @@ known_carry_laws far keeps orders = (far 5 acts, keeps 5 acts, orders 5 acts ref
 
 pub known_merge_laws : MergeLeavesNoShortStitch → MergeKeepsEnds → MergeKeepsOrder
     → (are_long_enough 3 None merged ≡ true)
-    × (thread_ends None merged ≡ sewn 0 ∷ sewn 160 ∷ act.Trim ∷ sewn 164 ∷ sewn 190 ∷ act.Trim ∷ sewn 300 ∷ act.Stop ∷ act.Stop ∷ sewn 9 ∷ [])
+    × (thread_ends None merged
+    ≡ sewn 0 ∷ sewn 160 ∷ act.Trim ∷ sewn 164 ∷ sewn 190 ∷ act.Trim ∷ sewn 300 ∷ act.Stop ∷ act.Stop ∷ sewn 9 ∷ [])
     × (are_in_order true merged ≡ true)
 unfolding square_of
 known_merge_laws long keeps orders = (long 3 acts, keeps 3 acts, orders 3 acts refl)

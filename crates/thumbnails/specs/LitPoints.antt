@@ -32,8 +32,8 @@ difference_of a b = max a b - min a b
 abbrev pub length_of_line : ThumbPoint → ThumbPoint → ℕ
 length_of_line a b = max (difference_of a.column b.column) (difference_of a.row b.row)
 
--- The coordinate after some of the steps from one to another, rounded to the nearest, and within the
--- thumbnail.
+-- The coordinate after some of the steps from one to another, rounded to the nearest, and within
+-- the thumbnail.
 abbrev pub between_steps : (steps step a b : ℕ) → ℕ
 between_steps steps step a b = if steps == 0 then min a 47
     else min ((a * (steps - step) + b * step + steps / 2) / steps) 47
