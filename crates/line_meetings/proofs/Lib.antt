@@ -1,4 +1,5 @@
 pub mod Names
+mod BoundsFacts
 mod BoundsLemmas
 mod CopyLemmas
 mod JointLemmas

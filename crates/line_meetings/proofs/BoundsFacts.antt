@@ -1,0 +1,92 @@
+-- Worked bounds and steps, and what the records on bounds, told meetings and copies state.
+use Rattle.std.proofs.Common.{◌≡◌, ◌≤◌, ℕ, pos, true, false, List, [], ◌∷◌, ◌++◌, Option, Some, None, refl, arith}
+use Rattle.design_model.specs.declared.point.Point.{Point}
+use Rattle.drawing_review.specs.declared.grid_point.GridPoint.{GridPoint}
+use Rattle.drawing_review.specs.Frames.{grid_point}
+use Rattle.line_meetings.specs.declared.joints.Joint.{Joint}
+use Rattle.line_meetings.specs.declared.meeting.Meeting.{Meeting}
+use Rattle.line_meetings.specs.declared.part_key.PartKey.{PartKey}
+use Rattle.line_meetings.specs.declared.span.Span.{Span}
+use Rattle.line_meetings.specs.Bounds.{IsWithinSpan, united_span}
+use Rattle.line_meetings.specs.Joints.{point_by_steps, step_after, steps_around_of, steps_with}
+use Rattle.line_meetings.specs.Parts.{key_of, segment_part}
+use Rattle.line_meetings.specs.Sorting.{HasFirsts}
+use Rattle.line_meetings.specs.Telling.{TellsUpTo, told}
+use Rattle.line_meetings.proofs.Names.{AreAllWithin, AreWithin, Bounds, LineSegment, bounds_of, united_bounds}
+
+abbrev at : ℕ → ℕ → Point
+at x y = record { x = pos x; y = pos y }
+
+abbrev from_to : Point → Point → LineSegment
+from_to p q = segment_part (record { block = 2; line = 0; number = 0; is_first = false; is_last = false }) p q
+
+abbrev span : (least greatest : ℕ) → Span
+span least greatest = record { least = least; greatest = greatest }
+
+pub known_united_spans : (united_span (span 2 9) (span 4 12) ≡ span 2 12) × (united_span (span 4 12) (span 5 9) ≡ span 4 12)
+known_united_spans = (refl, refl)
+
+-- from 0 0 to 4 1, and from 2 5 to 3 3: coordinates count from -30,000, differences from what none is below
+pub known_united : united_bounds (bounds_of (from_to (at 0 0) (at 4 1))) (bounds_of (from_to (at 2 5) (at 3 3))) ≡ record {
+  x = span 30000 30004;
+  y = span 30000 30005;
+  sum = span 60000 60007;
+  difference = span 65532 65538;
+  flat_sum = span 90000 90012;
+  steep_sum = span 90000 90009;
+  flat_difference = span 101062 101072;
+  steep_difference = span 95534 95542;
+}
+known_united = refl
+
+-- a span within another is so at both ends
+pub known_least : IsWithinSpan (span 3 9) (span 2 9) → ⊥
+known_least is = omega (arith, is.least)
+
+pub known_greatest : IsWithinSpan (span 3 9) (span 3 10) → ⊥
+known_greatest is = omega (arith, is.greatest)
+
+-- bounds within others are so in each measure
+pub known_within : (outer inner : Bounds) → AreWithin outer inner → IsWithinSpan outer.x inner.x × IsWithinSpan outer.y inner.y
+    × IsWithinSpan outer.sum inner.sum × IsWithinSpan outer.difference inner.difference
+    × IsWithinSpan outer.flat_sum inner.flat_sum × IsWithinSpan outer.steep_sum inner.steep_sum
+    × IsWithinSpan outer.flat_difference inner.flat_difference × IsWithinSpan outer.steep_difference inner.steep_difference
+known_within outer inner are =
+    (are.x, are.y, are.sum, are.difference, are.flat_sum, are.steep_sum, are.flat_difference, are.steep_difference)
+
+-- the bounds of each part are within
+pub known_all_within : (bounds : Bounds) (s t : LineSegment) → AreAllWithin bounds (s ∷ t ∷ [])
+    → AreWithin bounds (bounds_of s) × AreWithin bounds (bounds_of t)
+known_all_within bounds s t are = (are.0, are.1.0)
+
+-- points in a row
+abbrev along : ℕ → GridPoint
+along x = grid_point (at x 0)
+
+abbrev joint : (a b : ℕ) → Joint
+joint a b = record { a = along a; b = along b }
+
+-- joints from 1 to 2, from 2 to 3 and from 5 to 3: 2 and 3 become 1, and then 1 becomes 5
+pub known_steps : (steps_with [] (joint 1 2 ∷ joint 2 3 ∷ joint 5 3 ∷ []) ≡ joint 1 2 ∷ joint 1 3 ∷ joint 5 1 ∷ [])
+    × (step_after (joint 1 2 ∷ []) (joint 2 3) ≡ joint 1 3)
+    × (point_by_steps (joint 1 2 ∷ joint 1 3 ∷ joint 5 1 ∷ []) (along 3) ≡ along 5)
+    × (point_by_steps (joint 1 2 ∷ joint 1 3 ∷ []) (along 3) ≡ along 1)
+    × (point_by_steps (joint 1 2 ∷ joint 1 3 ∷ []) (along 4) ≡ along 4)
+known_steps = (refl, refl, refl, refl, refl)
+
+-- of three segments in a row, those whose ends are within 4 of the point 0
+pub known_steps_around : steps_around_of 4 (from_to (at 0 0) (at 2 0) ∷ from_to (at 2 0) (at 4 0) ∷ from_to (at 4 0) (at 5 0) ∷ [])
+    (from_to (at 0 0) (at 0 0)) ≡ joint 0 2 ∷ joint 0 4 ∷ []
+known_steps_around = refl
+
+-- more meetings come after the old ones, whatever is after them
+pub known_telling : (new more old : List Meeting) → TellsUpTo more old new → (rest : List Meeting)
+    → told (new ++ rest) ≡ told (old ++ (more ++ rest))
+known_telling new more old tells = tells
+
+-- the first part with a key is kept
+pub known_firsts : (firsts : PartKey → Option LineSegment)
+    → HasFirsts (from_to (at 0 0) (at 2 0) ∷ from_to (at 2 0) (at 4 0) ∷ []) firsts
+    → (firsts (key_of (from_to (at 4 0) (at 2 0))) ≡ Some (from_to (at 2 0) (at 4 0)))
+    × (firsts (key_of (from_to (at 0 0) (at 4 0))) ≡ None)
+known_firsts firsts has = (has (key_of (from_to (at 4 0) (at 2 0))), has (key_of (from_to (at 0 0) (at 4 0))))
