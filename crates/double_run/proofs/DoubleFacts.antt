@@ -3,10 +3,10 @@ use Rattle.std.proofs.Common.{◌≡◌, ℕ, List, [], ◌∷◌, Option, None,
 use Rattle.double_run.proofs.Names.{All-get_or, Edge, Pass, PieceValue, is_fitting_walk, walk_cost, IsPassedBothWays, IsDouble, same_way, directed_passes, without_ends, All-cons, All-nil}
 use Rattle.design_model.specs.declared.point.Point.{Point}
 
-abbrev edge : (a b cost : ℕ) → Edge
+abbrev pub edge : (a b cost : ℕ) → Edge
 edge a b cost = record { a = a; b = b; cost = cost }
 
-abbrev at : ℕ → Point
+abbrev pub at : ℕ → Point
 at x = record { x = pos x; y = pos 0 }
 
 -- line 4 from one junction to the next, line 6 on to a third, and line 9, which ends there where it begins
@@ -21,10 +21,10 @@ tail = record {
   end = None;
 }
 
-abbrev forth : ℕ → Pass
+abbrev pub forth : ℕ → Pass
 forth line = record { line = line; back = false }
 
-abbrev back : ℕ → Pass
+abbrev pub back : ℕ → Pass
 back line = record { line = line; back = true }
 
 -- out along all lines, and home again

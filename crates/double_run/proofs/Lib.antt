@@ -7,3 +7,4 @@ mod OutingLemmas
 mod HomeLemmas
 mod StepLemmas
 mod DoubleFacts
+mod TraversalFacts
