@@ -11,3 +11,4 @@ mod SewnPieces
 mod DoubleLemmas
 mod RouteLemmas
 mod RouteFacts
+mod CopyFacts
