@@ -1,3 +1,4 @@
 mod LensFacts
 mod LiftableMoats
 mod TreeFacts
+mod LoadFacts
