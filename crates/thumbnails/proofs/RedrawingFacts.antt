@@ -40,7 +40,7 @@ pub not_blank : (m : Meaning) → IsRedrawn m empty_design (replicate 456 9) →
 unfolding thumb_bytes
 not_blank m is = let first : 9 ∷ [] ≡ 0 ∷ [] = ap (take 1) is.blank in cc
 
--- The points in the columns 0, 9 and 47 of a row, and one in the row below: bit 0 of the first byte, bit 1 of the second, bit 7 of the last.
+-- Points in the columns 0, 9 and 47, and one below the first: bit 0 of the first byte, bit 1 of the second, bit 7 of the last.
 abbrev lit : ThumbPoints
 lit point = (point.row == 5 && (point.column == 0 || (point.column == 9 || point.column == 47)))
     || (point.row == 6 && point.column == 16)
