@@ -1,6 +1,7 @@
 pub mod Names
 pub mod CallerLemmas
 mod SectionFacts
+mod MarkFacts
 mod SpotLemmas
 mod SectionLemmas
 mod WholeLemmas
