@@ -1,44 +1,26 @@
--- What the plans of the commands accept and refuse, and what the products of `look`, `free`, `near` and `edit` state.
-use Rattle.std.proofs.Common.{◌≡◌, ◌≤◌, ℕ, Bool, true, false, List, [], ◌∷◌, ◌++◌, Ok, Err, codes, length, map, refl}
+-- What the plans of the commands accept and refuse, and the orders of requests.
+use Rattle.std.proofs.Common.{[], Bool, codes, Err, false, List, map, None, refl, true, ℕ, ◌++◌, ◌∷◌, ◌≡◌, ◌≤◌}
 use Rattle.std.specs.Fmt.{digits}
-use Rattle.command_words.specs.declared.names.FileNames.{FileNames}
 use Rattle.command_words.specs.ValidNames.{AreFileNames}
-use Rattle.design_model.specs.Extents.{extent_of_points}
-use Rattle.drawing_commands.proofs.Names.{DrawingValue, IsEdited, IsFreeProduct, IsLook, IsNearProduct, bad_edit_is_out_of_memory, drawing_edit_read, drawing_of, drawing_order_of, drawing_outputs_of, drawing_plan_of, editing, free_made, free_order, free_read, freeing, look_order, look_read, looking, meet_read, meeting, near_file_order, near_read, nearing, snap_order, space_made, space_order, space_read, spacing, stitch_drawing_after, telling}
-use Rattle.drawing_commands.specs.CutProducts.{IsCutProduct, cut_text}
+use Rattle.command_words.specs.declared.names.FileNames.{FileNames}
+use Rattle.drawing_commands.proofs.Names.{bad_edit_is_out_of_memory, drawing_edit_read, drawing_outputs_of, drawing_plan_of, editing, free_made, free_order, free_read, freeing, look_order, look_read, looking, meet_read, meeting, near_file_order, near_read, nearing, snap_order, space_order, space_read, stitch_drawing_after, telling}
 use Rattle.drawing_commands.specs.DrawingEditing.{drawing_edit_order}
-use Rattle.drawing_commands.specs.EditComments.{comments_of_edits}
-use Rattle.drawing_commands.specs.FreeOrders.{FreeOrder}
-use Rattle.drawing_commands.specs.Looks.{LookOrder}
 use Rattle.drawing_commands.specs.MeetFaults.{meet_fault_text}
-use Rattle.drawing_commands.specs.NearFiles.{near_comments, near_report}
 use Rattle.drawing_commands.specs.Names.{named_words}
+use Rattle.drawing_commands.specs.NearFiles.{near_report}
 use Rattle.drawing_commands.specs.Requests.{HasFileNames, order_of_request}
 use Rattle.drawing_commands.specs.TextsRead.{text_read}
 use Rattle.drawing_commands.specs.Usage.{drawing_usage_text}
 use Rattle.drawing_commands.specs.VersionOne.{plan_if_joined}
-use Rattle.drawing_commands.specs.WholeProducts.{IsWhole, IsWholeProduct}
 use Rattle.drawing_commands.specs.declared.requests.DrawingRequest.TheVariants as request
-use Rattle.drawing_commands.specs.declared.text_reading.TextRead.{TextRead}
-use Rattle.drawing_comments.specs.CommentLaws.{spoken_lines}
 use Rattle.drawing_comments.specs.declared.text_comments.TextComments.{TextComments}
 use Rattle.drawing_edits.specs.declared.edit_fault.EditFault.TheVariants as fault
-use Rattle.drawing_reports.specs.FreeTexts.{free_report}
-use Rattle.drawing_reports.specs.LookTexts.{look_report}
-use Rattle.drawing_text.specs.DrawnTexts.{drawn_text}
-use Rattle.drawing_text.specs.TextLaws.{IsJoinedFrom}
 use Rattle.drawing_text.specs.declared.draw_fault.DrawFault.{DrawFault}
-use Rattle.drawing_text.specs.declared.drawn_lines.DrawnLines.{DrawnLines}
-use Rattle.free_ends.specs.FreedDrawings.{IsFreed}
-use Rattle.line_graph.specs.EndOrders.{HasOrderedEnds}
-use Rattle.line_graph.specs.WalkEnds.{HasNoEnds}
 use Rattle.line_graph.specs.declared.draw_kind.DrawKind.TheVariants as kind
-use Rattle.line_meetings.specs.Meetings.{meetings_of_lines}
 use Rattle.met_drawings.specs.declared.meet_fault.MeetFault.TheVariants as meet_fault
-use Rattle.near_pieces.specs.NearDrawings.{IsNear}
 use Rattle.program_shell.specs.Plans.{Plan, refuses}
-use Rattle.program_shell.specs.Products.{ProductValue, one_file_product, report_product}
 use Rattle.program_texts.specs.DrawingTexts.{draw_fault_text}
+use Rattle.spaced_lines.specs.declared.spacing_rule.SpacingLimits.{SpacingLimits}
 
 -- A drawing of version 1 in which a line would be cut is refused, and any other goes on.
 pub known_version_one : (next : Plan) → (plan_if_joined (codes "a.rw") next true ≡ next)
@@ -48,10 +30,12 @@ known_version_one next = (refl, refl)
 -- The first fault of a text is refused by each command that reads one.
 pub known_faults : (why : DrawFault) → (look_read (look_order (codes "a") 2) (Err why) ≡ refuses (draw_fault_text (codes "a") why))
     × (meet_read (snap_order 2 true (codes "a") (codes "b")) (Err why) ≡ refuses (draw_fault_text (codes "a") why))
+    × ((limits : SpacingLimits) → space_read (space_order limits (codes "a") (codes "b")) (Err why)
+    ≡ refuses (draw_fault_text (codes "a") why))
     × (free_read (free_order (codes "a") (codes "b")) (Err why) ≡ refuses (draw_fault_text (codes "a") why))
     × (near_read (near_file_order (codes "a") (codes "b")) (Err why) ≡ refuses (draw_fault_text (codes "a") why))
     × (drawing_edit_read (drawing_edit_order (codes "a") (codes "b") []) (Err why) ≡ refuses (draw_fault_text (codes "a") why))
-known_faults why = (refl, refl, refl, refl, refl)
+known_faults why = (refl, refl, (λ limits. refl), refl, refl, refl)
 
 pub known_read : text_read (codes "redwork 9") ≡ Err (record { number = 1; kind = kind.BadHeader })
 known_read = refl
@@ -106,26 +90,3 @@ known_names names has = has
 pub known_words : (names : FileNames) (rest : List (List ℕ)) → ((named_words names rest).input ≡ names.input.now)
     × ((named_words names rest).output ≡ names.output.now) × ((named_words names rest).rest ≡ rest)
 known_words names rest = (refl, refl, refl)
-
--- A text whose lines are cut has the lines of the text without comments, and is read as the drawing.
-pub known_cut : (output report : List ℕ) (c : TextComments) (d : DrawingValue) (p : ProductValue) → IsCutProduct output c d report p
-    → (spoken_lines (cut_text c d) ≡ spoken_lines (drawn_text d)) × (drawing_of (cut_text c d) ≡ Ok d)
-    × (p ≡ one_file_product output (cut_text c d) report)
-known_cut output report c d p is = (is.same, is.again, is.made)
-
-pub known_joined : (drawn joined : DrawingValue) → IsWhole drawn joined → IsJoinedFrom drawn joined × HasOrderedEnds joined
-    × HasNoEnds drawn
-known_joined drawn joined is = (is.whole, is.ordered, is.no_ends)
-
--- The report of `free` is about the ends that were found.
-pub known_freed : (output : List ℕ) (c : TextComments) (drawn before : DrawingValue) (p : ProductValue)
-    (is : IsFreeProduct output c drawn before p) → IsFreed drawn before is.freed
-    × IsWholeProduct output c drawn is.freed.joined (free_report is.freed.pieces is.freed.found) p
-known_freed output c drawn before p is = (is.is, is.written)
-
--- The report of `near` has the travel of the drawing that was read, and of the one that is written.
-pub known_near : (output : List ℕ) (text : TextRead) (p : ProductValue) (is : IsNearProduct output text p)
-    → IsNear text.lines.drawing is.found
-    × IsCutProduct output (near_comments text is.found.drawing) is.found.drawing
-    (near_report is.found.before is.found.after is.found.pieces) p
-known_near output text p is = (is.near, is.written)
