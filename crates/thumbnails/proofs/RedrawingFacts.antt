@@ -5,13 +5,12 @@ use Rattle.format_traits.specs.Meanings.{Meaning}
 use Rattle.format_traits.specs.declared.fault.ReadFault.TheVariants as fault
 use Rattle.thumbnails.specs.Packings.{thumb_bytes, row_bytes, rows_from}
 use Rattle.thumbnails.specs.Redrawings.{IsRedrawn, with_thumbnails_of, ThumbnailsAreNotRead}
-use Rattle.std.specs.HashSet.{contains}
 use Rattle.pec_codec.specs.Records.{records_after_skip}
 use Rattle.pes_codec.specs.Formats.{file_meaning}
 use Rattle.pes_codec.specs.declared.file_kind.FileKind.{FileKind}
 use Rattle.record_formats.specs.Records.{next, over, refused}
 use Rattle.record_formats.specs.declared.event.Event.TheVariants as event
-use Rattle.thumbnails.specs.LitPoints.{ThumbPoints, is_same_thumb_point}
+use Rattle.thumbnails.specs.LitPoints.{ThumbPoints, points_in_cells}
 use Rattle.thumbnails.specs.Sketches.{sketch_by}
 use Rattle.thumbnails.specs.Tails.{TailsAreNotRead, has_end}
 use Rattle.thumbnails.specs.declared.sketch.Sketch.{Sketch}
@@ -49,10 +48,10 @@ pub known_rows : (row_bytes lit 5 ≡ 1 ∷ 2 ∷ 0 ∷ 0 ∷ 0 ∷ 128 ∷ [])
     × (rows_from lit 5 2 ≡ 1 ∷ 2 ∷ 0 ∷ 0 ∷ 0 ∷ 128 ∷ 0 ∷ 0 ∷ 1 ∷ 0 ∷ 0 ∷ 0 ∷ []) × (rows_from lit 5 0 ≡ [])
 known_rows = (refl, refl, refl)
 
--- what is drawn, by the sets of points
+-- what is drawn, by the tables of points
 pub known_sketch : (sketch : Sketch) → sketch_by sketch ≡ record {
-  whole = contains is_same_thumb_point sketch.whole;
-  block = contains is_same_thumb_point sketch.block;
+  whole = points_in_cells sketch.whole;
+  block = points_in_cells sketch.block;
   place = sketch.place;
   loose = sketch.loose;
   done = sketch.done;
