@@ -4,8 +4,13 @@ use Rattle.std.specs.Prelude.{bytes_eq}
 use Rattle.design_model.specs.Designs.{DesignValue}
 use Rattle.format_traits.specs.declared.fault.WriteFault.TheVariants as fault
 use Rattle.format_traits.specs.Meanings.{Meaning}
-use Rattle.program_shell.specs.Products.{ProductValue}
-use Rattle.design_commands.specs.DesignOutputs.{IsPicturedOutput, has_thumbnails}
+use Rattle.program_shell.specs.Products.{ProductValue, one_file_product}
+use Rattle.design_commands.specs.DesignOutputs.{IsPicturedOutput, has_thumbnails, IsDesignOutput, IsUnwritableText}
+use Rattle.format_traits.specs.Laws.{RoundTrips, MovesWithin}
+use Rattle.program_texts.specs.DesignReports.{written_report}
+use Rattle.design_model.specs.Counts.{counts_of}
+use Rattle.thumbnails.specs.Redrawings.{MayBeRedrawn, with_thumbnails_of}
+use Rattle.program_texts.specs.DesignTexts.{write_fault_text}
 
 -- A format by its ending.
 ended : (ending : List ℕ) (m : Meaning) → m.ending ≡ ending
@@ -21,3 +26,20 @@ known_formats m = (ended (codes "pec") m, ended (codes "pes") m, ended (codes "d
 pub unwritten : (name : List ℕ) (m : Meaning) (d : DesignValue) (product : ProductValue) → m.writes d ≡ Err (fault.TooLong 1)
     → IsPicturedOutput name m d product → ⊥
 unwritten name m d product refused is = let written : m.writes d ≡ Ok is.out = is.written in cc
+
+-- A written design is read again and within the limit, and the report is on its acts.
+pub known_output : (name : List ℕ) (m : Meaning) (d : DesignValue) (product : ProductValue) (is : IsDesignOutput name m d product)
+    → (m.writes d ≡ Ok is.out) × RoundTrips m d is.out × MovesWithin m is.out
+    × (product ≡ one_file_product name is.out (written_report (counts_of d)))
+known_output name m d product is = (is.written, is.again, is.within, is.made)
+
+-- With thumbnails its file has them in place of the blank ones, and is read as that without them.
+pub known_pictured : (name : List ℕ) (m : Meaning) (d : DesignValue) (product : ProductValue) (is : IsPicturedOutput name m d product)
+    → (m.writes d ≡ Ok is.out) × RoundTrips m d is.out × MovesWithin m is.out × MayBeRedrawn m d is.out
+    × (product ≡ one_file_product name (with_thumbnails_of d is.out) (written_report (counts_of d)))
+known_pictured name m d product is = (is.written, is.again, is.within, is.redrawn, is.made)
+
+-- One that isn't written is refused by its format, for that fault.
+pub known_unwritable : (name : List ℕ) (m : Meaning) (d : DesignValue) (text : List ℕ) (is : IsUnwritableText name m d text)
+    → (m.writes d ≡ Err is.fault) × (text ≡ write_fault_text name m.limit is.fault)
+known_unwritable name m d text is = (is.refuses, is.is)
