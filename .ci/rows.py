@@ -176,10 +176,10 @@ EXCEPTIONS = {
         "loose end", "near point", "unlisted meeting", "crossing", "repeated segment", "overlap from {x} {y} to {u} {v}",
         "more than 65536 places: the first are named", ": {stitches} {noun}", "stitch", "stitches",
         " shorter than half a step, the first at {x} {y}", ", shortest {shortest}, longest {longest}"],
-    "drawing_commands/meet_texts.rt": [
+    "drawing_reports/meeting_texts.rt": [
         "moved {moved}", "crossings {crossings}", " listed {listed} dropped {dropped} left {left} ",
         "pieces {before} to {after}"],
-    "drawing_commands/space_texts.rt": [
+    "drawing_reports/space_texts.rt": [
         "points {points} to {less} stitches {stitches} to {fewer} ",
         "shortest {short} to {shorter} longest {long} to {longer} "],
     "drawing_reports/free_texts.rt": [
