@@ -38,7 +38,7 @@ for name in $(NAMES); do install -m 644 completions/$$name.bash $(1)/$(BASH)/$$n
 install -m 644 $(NAMES:%=completions/_%) $(1)/$(2)
 install -m 644 $(NAMES:%=completions/%.fish) $(1)/$(FISH)
 install -m 644 README.md CHANGELOG.md $(1)/$(DOC)
-install -m 644 docs/*.md docs/*.svg $(1)/$(DOC)/docs
+install -m 644 docs/*.md docs/*.svg docs/*.png $(1)/$(DOC)/docs
 endef
 
 # The WebAssembly module of the programs, if one is given.
