@@ -39,7 +39,7 @@ def next_point(rng, points, reach):
 def random_acts(rng, reach):
     """The lines of a stitch list, which need not be one."""
     lines, points, loose = [f"block {rng.randrange(256)}"], [(rng.randint(-reach, reach), rng.randint(-reach, reach))], True
-    for _ in range(70 if rng.random() < 0.03 else 0):
+    for _ in range(rng.choice([70, 253, 254, 255]) if rng.random() < 0.03 else 0):
         lines += ["needle 0 0", f"block {rng.randrange(256)}"]
     for _ in range(rng.choice([0, 1, 3, 8, 20, 40])):
         kind = rng.choices(["needle", "float", "trim", "block"], [12, 2, 2, 1])[0]
@@ -63,12 +63,16 @@ RECORDS = {
             (b"\x01\x02", 10), (b"\x7F\x40", 6), (b"\xFF", 0.1), (b"\xB0\x01\x02", 3)],
 }
 RECORDS["pes"] = RECORDS["pec"]
+# A stop of each format, of which some designs have as many as another format can't hold.
+STOPS = {"dst": b"\0\0\xC3", "exp": b"\x80\x01\0\0", "pec": b"\xFE\xB0\x02", "pes": b"\xFE\xB0\x02"}
 
 
 def random_records(rng, ending):
     """Records of a file as they may come."""
     records, weights = zip(*RECORDS[ending])
     body = b"".join(rng.choices(records, weights)[0] for _ in range(rng.choice([0, 2, 9, 30])))
+    if rng.random() < 0.03:
+        body += STOPS[ending] * rng.choice([253, 254, 255, 998, 999, 1000])
     return body + {"dst": b"\0\0\xF3", "exp": b""}.get(ending, b"\xFF")
 
 
