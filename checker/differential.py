@@ -63,7 +63,7 @@ RECORDS = {
             (b"\x01\x02", 10), (b"\x7F\x40", 6), (b"\xFF", 0.1), (b"\xB0\x01\x02", 3)],
 }
 RECORDS["pes"] = RECORDS["pec"]
-# A stop of each format, of which some designs have as many as another format can't hold.
+# A stop of each format. Some designs have more of them than another format can hold.
 STOPS = {"dst": b"\0\0\xC3", "exp": b"\x80\x01\0\0", "pec": b"\xFE\xB0\x02", "pes": b"\xFE\xB0\x02"}
 
 
