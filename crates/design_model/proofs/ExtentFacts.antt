@@ -1,6 +1,8 @@
 -- Worked values of the extent.
-use Rattle.std.proofs.Common.{◌≡◌, ℤ, pos, negsuc, [], ◌∷◌, Some, None, refl}
-use Rattle.design_model.proofs.Names.{Stitch, Jump, Point, acts_along, IsExtentOrNone, extent_of_points, extent_height, needle_points_of_acts, extent_width, grown_optional_extent}
+use Rattle.std.proofs.Common.{◌≡◌, ℤ, pos, negsuc, [], ◌∷◌, Contains, Some, None, refl, arith}
+use Rattle.design_model.proofs.Names.{Stitch, Jump, Point, acts_along, IsExtentOrNone, IsMaximum, IsMinimum, ◌≤ℤ◌, extent_of_points, extent_height, needle_points_of_acts, extent_width, grown_optional_extent}
+use Rattle.design_model.specs.Extents.{IsExtent}
+use Rattle.design_model.specs.declared.bounds.Extent.{Extent}
 use Rattle.design_model.specs.declared.command.Command.TheVariants.{Trim, Stop}
 
 -- the point with those coordinates
@@ -41,3 +43,18 @@ pub known_grown :
     × (grown_optional_extent None (place (pos 2) (pos 7) ∷ place (pos 5) (pos 3) ∷ [])
     ≡ Some (record { min = place (pos 2) (pos 3); max = place (pos 5) (pos 7) }))
 known_grown = (refl, refl)
+
+-- a minimum of 3, -7 and 5 is one of them and above none, and a maximum is below none
+pub known_minimum : (least : ℤ) → IsMinimum least (pos 3 ∷ negsuc 6 ∷ pos 5 ∷ [])
+    → (least ≤ℤ pos 3) × (least ≤ℤ negsuc 6) × (least ≤ℤ pos 5) × Contains (pos 3 ∷ negsuc 6 ∷ pos 5 ∷ []) least
+known_minimum least is = (is.bound 0 least (omega arith), is.bound 1 least (omega arith), is.bound 2 least (omega arith), is.reached)
+
+pub known_maximum : (most : ℤ) → IsMaximum most (pos 3 ∷ negsuc 6 ∷ pos 5 ∷ [])
+    → (pos 3 ≤ℤ most) × (negsuc 6 ≤ℤ most) × (pos 5 ≤ℤ most) × Contains (pos 3 ∷ negsuc 6 ∷ pos 5 ∷ []) most
+known_maximum most is = (is.bound 0 most (omega arith), is.bound 1 most (omega arith), is.bound 2 most (omega arith), is.reached)
+
+-- each side of an extent is the minimum or the maximum of its own axis
+pub known_sides : (p q : Point) (extent : Extent) → IsExtent (p ∷ q ∷ []) extent
+    → IsMinimum extent.min.x (p.x ∷ q.x ∷ []) × IsMinimum extent.min.y (p.y ∷ q.y ∷ [])
+    × IsMaximum extent.max.x (p.x ∷ q.x ∷ []) × IsMaximum extent.max.y (p.y ∷ q.y ∷ [])
+known_sides p q extent is = (is.left, is.top, is.right, is.bottom)
