@@ -61,6 +61,9 @@ known_elsewhere leads = elsewhere (ap (λ (p : Point). p.x) leads.last)
     elsewhere : pos 19 ≡ pos 20 → ⊥
     elsewhere is = cc
 
+pub known_out_of_reach : LeadsBySteps (at 29999) (at 30001) 1 (at 30000 ∷ at 30001 ∷ []) → ⊥
+known_out_of_reach leads = true≢false (sym (leads.in_range 1 (at 0) (omega arith)))
+
 -- whatever the step, the points at which the way from 0 to 25 is split are different ones, and end at 25
 pub known_split_points : SplitPointsLead → (step : ℕ) → 1 ≤ step
     → (1 ≤ length (split_points (at 0) (at 25) step)) × (last_point_or (at 0) (split_points (at 0) (at 25) step) ≡ at 25)
