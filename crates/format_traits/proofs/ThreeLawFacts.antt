@@ -1,7 +1,8 @@
 -- The designs that every format encodes, at their limits, and what the laws of a format exclude.
 use Rattle.std.proofs.Common.{◌≡◌, ℕ, ◌+◌, true, false, Bool, IsTrue, IsOk, IsOkAnd, IfOk, List, [], ◌∷◌, ◌++◌, None, Some, Result, Ok, Err, arith, subst, sym, true≢false, ◌∙◌}
 use Rattle.std.specs.List.{list_all}
-use Rattle.format_traits.proofs.Names.{Command, acts_of, DesignValue, origin, WriteLimits, ReadFault, WriteFault, Loaded, AcceptedIsWithinLimits, IsFed, CodecsKeepLaws, HasSameActs, RoundTrips, Meaning, IsPlain, are_plain_from, first_refusal, stops_of, room_of, acts_without_numbers, KeepsLimits, is_point_within, FeedState, Feeds, Finishes, HasNothingFed, IsCodec, KeepsAllLaws, KeepsLaws}
+use Rattle.format_traits.proofs.Names.{Command, acts_of, DesignValue, origin, WriteLimits, ReadFault, WriteFault, Loaded, AcceptedIsWithinLimits, IsFed, CodecsKeepLaws, HasSameActs, RoundTrips, Meaning, IsPlain, are_plain_from, first_refusal, stops_of, room_of, acts_without_numbers, KeepsLimits, is_point_within, FeedState, Feeds, Finishes, HasNothingFed, IsCodec, KeepsAllLaws, KeepsLaws, MovesWithin, NumberedAct, is_above_max, unless_refused}
+use Rattle.design_model.specs.ActPositions.{is_act_in_range}
 use Rattle.design_model.specs.declared.memory.Memory.{Memory}
 use Rattle.format_traits.specs.declared.fault.ReadFault.TheVariants as read
 
@@ -56,12 +57,20 @@ pub known_codecs : CodecsKeepLaws → (m : Meaning) (l : WriteLimits) (file : De
     → KeepsLimits d → KeepsLaws m d
 known_codecs law m l file d codec limits = law m l file codec d limits
 
--- a design that isn't refused has no more stops than the format allows, and room for at most a million commands
+-- a codec has the format's limit, allows 254 stops, and writes what isn't refused, which is read back and moves within the limit
+pub known_codec : (m : Meaning) (l : WriteLimits) (file : DesignValue → List ℕ) (d : DesignValue) → IsCodec m l file → KeepsLimits d
+    → (m.limit ≡ l.limit) × (is_above_max l.stops 254 ≡ false) × (m.writes d ≡ unless_refused (first_refusal l (acts_of d)) (file d))
+    × (first_refusal l (acts_of d) ≡ None → RoundTrips m d (file d)) × (first_refusal l (acts_of d) ≡ None → MovesWithin m (file d))
+known_codec m l file d codec limits =
+    (codec.limit, codec.stops 254 (omega arith), codec.writes d, codec.again d limits, codec.within d limits)
+
+-- a design that isn't refused has acts in range, no more stops than the format allows, and room for at most a million commands
 pub known_accepted : AcceptedIsWithinLimits → (l : WriteLimits) (d : DesignValue) (most : ℕ) → KeepsLimits d
     → first_refusal l (acts_of d) ≡ None
-    → (room_of l.limit (acts_of d) ≡ 1000001 → ⊥) × (l.stops ≡ Some most → stops_of (acts_of d) ≡ most + 1 → ⊥)
+    → IsTrue (list_all (λ (a : NumberedAct). is_act_in_range a.act) (acts_of d))
+    × (room_of l.limit (acts_of d) ≡ 1000001 → ⊥) × (l.stops ≡ Some most → stops_of (acts_of d) ≡ most + 1 → ⊥)
 known_accepted law l d most limits none = let within = law l d limits none in
-    (λ is. omega (arith, is, within.room), λ max is. omega (arith, is, within.stops most max))
+    (within.in_range, λ is. omega (arith, is, within.room), λ max is. omega (arith, is, within.stops most max))
 
 -- a state of 5 bytes, after which a file reads as these results
 abbrev fed : Bool → ℕ → FeedState
