@@ -1,11 +1,12 @@
 #!/usr/bin/env python3
-"""Lists the definitions of this repository's specs that no worked fact reaches by name, by crate.
+"""Lists what no worked fact of this repository's specs names, by crate: definitions, and fields of records.
 
     bench/pinned.py [--list] [CRATE..]
 
 A fact is a statement in a file crates/*/proofs/*Facts.antt. It reaches each definition that it names, and each that one of
-these names. A definition that no fact reaches can be changed, and the code alike, without a fact that fails. With --list
-it prints their names too.
+these names. A definition that no fact reaches can be changed, and the code alike, without a fact that fails. So can a
+field, unless a fact that reaches its record has `.field` or `field =`. With --list it prints their names too, and why those
+that stay are left. A field that is named may still be weakened unseen: try it as `Unit`, and some fact has to fail.
 """
 import collections
 import glob
@@ -16,6 +17,12 @@ import sys
 import reached
 
 PROOF = re.compile(r"(?:pub )?use Rattle\.(\w+)\.proofs\.(\w+)\.\{([^}]*)\}")
+RECORD = re.compile(r"(?:pub )?record ")
+VALUE = re.compile(r"(?:pub )?(?:abbrev )?(?:pub )?([\w'-]+)")
+FIELD = re.compile(r"\s+pub ([\w']+) :")
+NAMED_FIELD = re.compile(r"\.([a-z][\w']*)|\b([a-z][\w']*) =(?!=)")
+LEFT = {"Mistakes.mistaken_word": "a mistake borrows its word, so no worked value is one", "Places.point_at": "of tests alone"}
+REACHED = {}
 
 
 def lines_of(path):
@@ -32,8 +39,8 @@ def passed_on(crate, module):
     return imports
 
 
-def names_in(path):
-    """The definitions that a file of facts names."""
+def facts_in(path):
+    """The statements of a file of facts, each with the definitions that it names, also in a value of the file."""
     imports, text = {}, []
     for line in lines_of(path):
         imports.update(reached.imported(line))
@@ -46,24 +53,53 @@ def names_in(path):
                     imports[(other or [first])[-1]] = known[first]
         elif not line.startswith(("use ", "pub use ", "--")):
             text.append(line)
-    words = set(reached.NAME.findall("\n".join(text)))
-    return {place for name, place in imports.items() if len(place) == 3 and name in words}
+    values = {name: {place} for name, place in imports.items() if len(place) == 3}
+    for fact in re.split(r"\n\n+(?=\S)", "\n".join(text).strip("\n")):
+        places = set().union(*(values[word] for word in set(reached.NAME.findall(fact)) if word in values))
+        values[VALUE.match(fact).group(1)] = places
+        yield fact, places
+
+
+def reached_from(places):
+    """The definitions that some definitions reach, themselves included."""
+    for place in places - REACHED.keys():
+        REACHED[place] = reached.reached("{}/{}.{}".format(*place))[0]
+    return set().union(*(REACHED[place] for place in places))
+
+
+def fields_of(place):
+    """The names of a record's fields, none for another definition."""
+    lines = reached.read(*place[:2])[0][place[2]]
+    return [field.group(1) for field in map(FIELD.match, lines) if field] if lines and RECORD.match(lines[0]) else []
+
+
+def report(kind, left, count):
+    """Prints what is left of each crate, and the total."""
+    for crate, names in sorted(left.items()):
+        told = [f"{name} ({LEFT[name]})" if name in LEFT else name for name in names]
+        print(f"{crate}: {len(names)}" + (f": {' '.join(told)}" if "--list" in sys.argv else ""))
+    print(f"{kind}: {sum(map(len, left.values()))} of {count}")
 
 
 def main():
-    pinned = set()
+    pinned, named = set(), collections.defaultdict(set)
     for path in glob.glob(os.path.join(reached.HOME, "*", "proofs", "*Facts.antt")):
-        for crate, module, word in names_in(path) - pinned:
-            pinned |= reached.reached(f"{crate}/{module}.{word}")[0]
+        for fact, places in facts_in(path):
+            fields = {dotted or given for dotted, given in NAMED_FIELD.findall(fact)}
+            for place in reached_from(places):
+                pinned.add(place)
+                named[place] |= fields
     known, _ = reached.all_definitions()
     wanted = {word for word in sys.argv[1:] if word != "--list"}
-    left = collections.defaultdict(list)
-    for crate, module, word in sorted(known - pinned):
+    definitions, fields, count = collections.defaultdict(list), collections.defaultdict(list), 0
+    for crate, module, word in sorted(known):
+        place = crate, module, word
+        count += len(fields_of(place))
         if not wanted or crate in wanted:
-            left[crate].append(f"{module}.{word}")
-    for crate, words in left.items():
-        print(f"{crate}: {len(words)}" + (f": {' '.join(words)}" if "--list" in sys.argv else ""))
-    print(f"{sum(map(len, left.values()))} of {len(known)} definitions")
+            definitions[crate] += [f"{module}.{word}"] if place not in pinned else []
+            fields[crate] += [f"{module}.{word}.{field}" for field in fields_of(place) if field not in named[place]]
+    report("definitions", {crate: names for crate, names in definitions.items() if names}, len(known))
+    report("fields", {crate: names for crate, names in fields.items() if names}, count)
 
 
 if __name__ == "__main__":
