@@ -87,6 +87,11 @@ pub known_others : (before after : ℕ → List ℕ → Records) (more : List �
     × (DecodesRecord before after 100 (7 ∷ []) (cut.Incomplete false) → (before 100 (7 ∷ []) ≡ over false) × (before 5 more ≡ after 5 more))
 known_others before after more = (λ ends. ends more, λ refuses. refuses more, λ few. (few.is, few.same 5 more))
 
+-- five bytes are enough for a record
+pub known_enough : (before after : ℕ → List ℕ → Records) (bytes : List ℕ) → length bytes ≡ 5
+    → DecodesRecord before after 100 bytes (cut.Incomplete false) → ⊥
+known_enough before after bytes enough few = omega (arith, enough, few.few)
+
 -- the same label and the same threads
 pub known_same : (commands : List Command) → (SameButCommands design (record design { label = []; commands = commands }) → ⊥)
     × (SameButCommands design (record design { threads = []; commands = commands }) → ⊥)
