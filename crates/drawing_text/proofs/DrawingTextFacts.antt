@@ -1,6 +1,7 @@
 -- Worked values of drawing texts: drawings, and the first faults of texts.
 use Rattle.std.proofs.Common.{◌≡◌, ℕ, pos, negsuc, List, [], ◌∷◌, ◌++◌, Ok, Err, codes, refl}
-use Rattle.drawing_text.proofs.Names.{flat_map, LineValue, lines_through, DrawKind, DrawingValue, drawing_as2, drawing_of, text_lines, line_without_return, words_of_line, located_fault}
+use Rattle.drawing_text.proofs.Names.{flat_map, LineValue, lines_through, DrawKind, DrawingValue, body_of_text, drawing_as2, drawing_of, text_lines, line_without_return, words_of_line, located_fault}
+use Rattle.drawing_text.specs.declared.version.Version.TheVariants as version
 use Rattle.line_graph.specs.declared.draw_kind.DrawKind.TheVariants as kind
 use Rattle.drawing_text.proofs.CanonicalTextFacts.{place}
 
@@ -20,6 +21,11 @@ known_return = refl
 -- spaces and tabs stand between words, and may stand at both ends
 pub known_words : words_of_line (32 ∷ 9 ∷ 97 ∷ 98 ∷ 32 ∷ 32 ∷ 99 ∷ 9 ∷ []) ≡ codes "ab" ∷ codes "c" ∷ []
 known_words = refl
+
+-- the header is in the third line, after a comment and an empty line, and all lines after it are kept
+pub known_body : body_of_text (text (codes "# a rose" ∷ [] ∷ codes "redwork 2" ∷ codes "# red" ∷ codes "step 30" ∷ []))
+    ≡ Ok (record { version = version.Two; header = 3; lines = (codes "#" ∷ codes "red" ∷ []) ∷ (codes "step" ∷ codes "30" ∷ []) ∷ [] })
+known_body = refl
 
 -- a square, and a line forth and back, in two blocks, with comments and signs as they may stand
 abbrev pub two_squares : DrawingValue
