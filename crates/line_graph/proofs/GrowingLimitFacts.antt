@@ -1,6 +1,6 @@
 -- Drawings that aren't growing ones: an earlier block has no line, or there is a start.
 use Rattle.std.proofs.Common.{◌≡◌, ℕ, zero, suc, pos, Contains, [], ◌∷◌, arith}
-use Rattle.line_graph.proofs.DrawingNames.{DrawingValue, empty_drawing, IsGrowingDrawing}
+use Rattle.line_graph.proofs.DrawingNames.{DrawingValue, empty_drawing, IsGrowingDrawing, step_count}
 use Rattle.line_graph.proofs.Places.{place}
 
 -- two blocks, of which only the second has a line
@@ -16,6 +16,10 @@ known_gap is = none_there (is.blocks.used 0 (omega arith))
     none_there : Contains {X = ℕ} (1 ∷ []) 0 → ⊥
     none_there (zero, there, is) = absurd cc
     none_there (suc i, there, is) = omega (arith, there)
+
+-- lines of more than 200,000 steps
+pub known_long : (d : DrawingValue) → IsGrowingDrawing d → step_count d.step d.lines ≡ 200001 → ⊥
+known_long d is long = omega (arith, long, is.lines.cost)
 
 -- a start
 abbrev started : DrawingValue

@@ -1,7 +1,7 @@
 -- What the makers of drawings, of starts and of ends keep between two calls.
-use Rattle.std.proofs.Common.{◌≡◌, ℕ, ◌==◌, ◌<◌, ◌≤◌, Bool, true, false, List, [], ◌∷◌, All, Contains, length, map, get_or, refl, arith, subst, true≢false}
+use Rattle.std.proofs.Common.{◌≡◌, ℕ, ◌==◌, ◌<◌, ◌≤◌, ◌≢◌, Bool, true, false, List, [], ◌∷◌, All, Contains, length, map, get_or, refl, arith, subst, true≢false}
 use Rattle.std.specs.List.{list_any}
-use Rattle.line_graph.proofs.DrawingNames.{AreInDifferentPieces, IsLine, IsMakerState, Spot, LineValue, DrawingValue, KeepsDrawingLimits, is_joined}
+use Rattle.line_graph.proofs.DrawingNames.{AreInDifferentPieces, IsLine, IsMakerState, IsNonDecreasing, point_count, step_count, Spot, LineValue, DrawingValue, KeepsDrawingLimits, is_joined}
 use Rattle.line_graph.specs.DrawingsOfParts.{drawing_of_parts}
 use Rattle.line_graph.specs.EndsMakerInvariants.{AreChosen, IsEndsMakerState, label_at}
 use Rattle.line_graph.specs.PieceLabels.{ArePieceLabels}
@@ -72,20 +72,25 @@ known_counters empty points steps is = (is.last_is, is.points_are, is.steps_are)
 
 -- and keeps its drawing within the limits, without starts and ends
 pub known_maker : (d : DrawingValue) (empty : Bool) (points steps : ℕ) → IsMakerState d empty points steps
-    → (1 ≤ d.step) × (d.step ≤ 2047) × (length d.label ≤ 16) × (length d.threads ≤ 255) × All (λ thread. thread < 256) d.threads
+    → (1 ≤ d.step) × (d.step ≤ 2047) × (length d.label ≤ 16) × All (λ byte. byte ≢ 32) d.label × (length d.threads ≤ 255) × All (λ thread. thread < 256) d.threads
     × (1 < length d.threads → Contains (map (λ (l : LineValue). l.block) d.lines) 0)
-    × All (λ (l : LineValue). l.block < length d.threads) d.lines
-    × All (λ (l : LineValue). IsLine l.points) d.lines × (length d.lines ≤ 1024) × (d.starts ≡ []) × (d.ends ≡ [])
+    × All (λ (l : LineValue). l.block < length d.threads) d.lines × IsNonDecreasing (map (λ (l : LineValue). l.block) d.lines)
+    × All (λ (l : LineValue). IsLine l.points) d.lines × (length d.lines ≤ 1024) × (point_count d.lines ≤ 65536)
+    × (step_count d.step d.lines ≤ 200000) × (d.starts ≡ []) × (d.ends ≡ [])
 known_maker d empty points steps is = (
   is.head.step_from,
   is.head.step_to,
   is.head.label_ok.short,
+  is.head.one_word,
   is.blocks.blocks_to,
   is.blocks.in_range,
   λ more. is.blocks.used 0 (omega (arith, more)),
   is.blocks.there,
+  is.blocks.ordered,
   is.lines.each,
   is.lines.line_count,
+  is.lines.points_to,
+  is.lines.cost,
   is.no_ends.starts,
   is.no_ends.ends,
 )

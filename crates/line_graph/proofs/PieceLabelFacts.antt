@@ -55,8 +55,9 @@ counted : (edge : Edge) (old new : List ℕ) → CountsEnds edge old new
 counted edge old new counts =
     subst (λ (between : List ℕ). new ≡ set between edge.b (get_or between edge.b 0 + 1)) counts.first counts.last
 
-pub known_counts : (new : List ℕ) → CountsEnds (record { a = 0; b = 2; cost = 5 }) (1 ∷ 4 ∷ 7 ∷ []) new → new ≡ 2 ∷ 4 ∷ 8 ∷ []
-known_counts new counts = counted _ _ new counts
+pub known_counts : (new : List ℕ) → CountsEnds (record { a = 0; b = 2; cost = 5 }) (1 ∷ 4 ∷ 7 ∷ []) new
+    → (between : List ℕ) × (between ≡ 2 ∷ 4 ∷ 7 ∷ []) × (new ≡ 2 ∷ 4 ∷ 8 ∷ [])
+known_counts new counts = (counts.between, counts.first, counted _ _ new counts)
 
 pub known_loop_counts : (new : List ℕ) → CountsEnds (record { a = 1; b = 1; cost = 5 }) (1 ∷ 4 ∷ 7 ∷ []) new → new ≡ 1 ∷ 6 ∷ 7 ∷ []
 known_loop_counts new counts = counted _ _ new counts

@@ -1,6 +1,6 @@
 -- Lists that aren't the pieces of a drawing, each for one reason.
 use Rattle.std.proofs.Common.{◌≡◌, ℕ, zero, suc, ◌<◌, Bool, true, false, List, [], ◌∷◌, Contains, Option, Some, None, slice_get, refl, arith, sym, true≢false}
-use Rattle.line_graph.proofs.Names.{LineValue, DrawingValue, AreConnected, ArePieces, IsPathOfLines, LinesTouch, touches}
+use Rattle.line_graph.proofs.Names.{LineValue, DrawingValue, AreConnected, ArePieces, ArePiecesOf, IsPathOfLines, LinesTouch, Piece, graph_of, piece_graph, touches}
 use Rattle.line_graph.proofs.WalkFacts.{at}
 
 abbrev line : ℕ → ℕ → ℕ → LineValue
@@ -91,3 +91,8 @@ known_ordered are = falls (are.ordered 0 (omega arith))
   where
     falls : 2 < 0 → ⊥
     falls is = omega (arith, is)
+
+-- computed pieces: their lines are the pieces of the drawing, and each graph is that of its lines
+pub known_computed : (d : DrawingValue) (p q : Piece) → ArePiecesOf d (p ∷ q ∷ [])
+    → ArePieces d (p.lines ∷ q.lines ∷ []) × (graph_of p ≡ piece_graph d p.lines) × (graph_of q ≡ piece_graph d q.lines)
+known_computed d p q are = (are.are, are.each 0 p (omega arith), are.each 1 p (omega arith))

@@ -1,5 +1,5 @@
 -- Acts that sew no walk, walks that can't be sewn, and what the theorems on sewing exclude.
-use Rattle.std.proofs.Common.{◌≡◌, ◌≢◌, ℕ, ◌+◌, ◌<◌, true, false, List, [], ◌∷◌, All, Contains, length, sum_by, Result, Ok, Err, refl, arith, ap, sym, true≢false}
+use Rattle.std.proofs.Common.{◌≡◌, ◌≢◌, ℕ, ◌+◌, ◌<◌, ◌≤◌, true, false, List, [], ◌∷◌, All, Contains, length, sum_by, Result, Ok, Err, refl, arith, ap, sym, true≢false}
 use Rattle.line_graph.proofs.Names.{AllZip, Act, acts_without_numbers, Pass, DrawingValue, KeepsDrawingLimits, ArePieces, piece_graph, is_fitting_walk, piece_cost, walk_cost, AreNear, HasNeedle, Run, runs_of, stops_after, FittingWalksAreSewable, GoesAlong, IsSewable, PiecesKeepLimits, PiecesAreUnique, IsValidPiece, needles_of_walk, acts_of, AreWritable, RunsAreSewn, Sews, design_of_runs, sewn_acts}
 use Rattle.design_model.specs.declared.act.Act.TheVariants as act
 use Rattle.design_model.specs.declared.act.NumberedAct.{NumberedAct}
@@ -103,6 +103,16 @@ known_limits law d pieces limits are = let within = law d pieces limits are in (
   λ is. omega (arith, is, within.count),
   λ walks along is. omega (arith, is, within.stops walks along),
 )
+
+-- such a walk has a pass, and each pass is of a line of its piece
+pub known_no_pass : GoesAlong (4 ∷ 7 ∷ []) [] → ⊥
+known_no_pass along = none along.some
+  where
+    none : 1 ≤ 0 → ⊥
+    none less = omega (arith, less)
+
+pub known_along : (pass : Pass) → GoesAlong (4 ∷ 7 ∷ []) (pass ∷ []) → Contains (4 ∷ 7 ∷ []) pass.line
+known_along pass along = along.there 0 pass (omega arith)
 
 -- a refusal leaves a value as it was, is the specified one or out of memory, and stands in for no success
 pub known_refused : (said : Result ℕ DrawKind) (old new : ℕ) (why : DrawKind)
