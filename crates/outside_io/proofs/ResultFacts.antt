@@ -100,9 +100,9 @@ pub known_prefix : (old new : SinkView) (bytes : List ℕ) (f : Failed) → Took
 known_prefix old new bytes f took = took
 
 -- the parts of a prefix and what is left are the bytes; a fault is counted once
-pub known_parts : (old new : Option (List ℕ)) (bytes left : List ℕ) → AddsPrefix old new bytes left
-    → (first : List ℕ) × (first ++ left ≡ bytes)
-known_parts old new bytes left adds = (adds.first, adds.parts)
+pub known_parts : (old new bytes left : List ℕ) → AddsPrefix (Some old) (Some new) bytes left
+    → (first : List ℕ) × (first ++ left ≡ bytes) × (new ≡ old ++ first)
+known_parts old new bytes left adds = (adds.first, adds.parts, adds.added)
 
 pub known_stream : (old new : StreamValue) (bytes : List ℕ) (f : Failed) → StreamPuts {T = ℕ} old new bytes (Err f)
     → new.faults ≡ next_count old.faults
