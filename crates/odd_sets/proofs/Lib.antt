@@ -6,6 +6,7 @@ pub mod TableLemmas
 pub mod OpenLemmas
 mod LimitFacts
 mod SlackRowFacts
+mod SoundFacts
 mod SetFacts
 mod SlotFacts
 mod MatchedFacts

@@ -8,7 +8,7 @@ use Rattle.odd_sets.proofs.SetFacts.{blossom, link, place, tree}
 
 -- after shrinking: an alternating tree of the same places, fewer inner sets, and one set more, of dual 0
 pub known_shrunk : (way : TightEdge) (root : OddSetValue) (new : List BranchValue) → Shrinks blossom way (place 0 1) root tree new
-    → IsAlternatingTree root.members new
+    → IsAlternatingTree root.members new × FoldsOuters blossom (place 0 1) root tree new
     × (count 4 (outer_members root.members new) + count 4 (inner_members new) ≡ 1) × (length (inner_dual_sets new) < 5)
     × ((F : List DualSet → ℕ) → IsAdditive F → F (dual_sets root) + F (branch_dual_sets new)
     ≡ F (dual_sets (place 0 1)) + F (branch_dual_sets tree) + F (record { key = 9; members = 1 ∷ 2 ∷ 3 ∷ []; dual = 0 } ∷ []))
@@ -16,6 +16,7 @@ pub known_shrunk : (way : TightEdge) (root : OddSetValue) (new : List BranchValu
     → IsSoundSet d h root × Each (IsSoundBranch d h) new)
 known_shrunk way root new does = (
   does.grown,
+  does.folds,
   does.places 4,
   does.fewer,
   does.sums,
