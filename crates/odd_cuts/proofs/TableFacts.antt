@@ -1,10 +1,12 @@
 -- What the tables of the checks hold, and what a check of a walk, of a cut and of cuts reports.
-use Rattle.std.proofs.Common.{◌≡◌, ℕ, ◌≤◌, ◌==◌, Bool, true, false, List, [], ◌∷◌, Option, Some, None, Ok, Err, get_or, slice_get, refl, arith}
-use Rattle.odd_cuts.proofs.Names.{AddsShares, AreAtMost, ChecksWalk, Cut, CutFault, Edge, IsPacking, IsValidPiece, Pass, ReportsFault, odd_among, table_load_faults}
+use Rattle.std.proofs.Common.{◌≡◌, ℕ, ◌+◌, ◌*◌, ◌%◌, ◌<◌, ◌≤◌, ◌==◌, Bool, if◌then◌else◌, All, length, count_by, sum_by, true, false, List, [], ◌∷◌, Option, Some, None, Ok, Err, get_or, slice_get, refl, arith}
+use Rattle.odd_cuts.proofs.Names.{AddsShares, AreAtMost, ChecksWalk, Cut, CutFault, Edge, IsPacking, IsValidPiece, Pass, ReportsFault, junctions_of, odd_among, table_load_faults}
 use Rattle.line_graph.specs.Drawings.{DrawingValue}
+use Rattle.line_graph.specs.DrawnWalks.{given_point}
+use Rattle.line_graph.specs.LineNeedles.{cost_of_line}
 use Rattle.line_graph.specs.PieceGraphs.{piece_graph}
 use Rattle.odd_cuts.specs.CheckTables.{AreEdgeIndexes, AreParities, ChecksCut, ChecksCuts, IsSummaryFrom, IsWalkSummary}
-use Rattle.odd_cuts.specs.DrawnCuts.{IsPackingOver, PackingsAreOverLines}
+use Rattle.odd_cuts.specs.DrawnCuts.{IsPackingOver, PackingsAreOverLines, given_apart, leads_out}
 use Rattle.odd_cuts.specs.declared.faults.CutFault.TheVariants as cut_fault
 use Rattle.odd_cuts.specs.declared.faults.WalkFault.{WalkFault}
 use Rattle.odd_cuts.specs.declared.faults.WalkFault.TheVariants as walk_fault
@@ -114,3 +116,11 @@ pub known_packings : PackingsAreOverLines → (d : DrawingValue) (lines : List �
     → (IsPacking (piece_graph d lines) cuts → IsPackingOver d lines cuts)
     × (IsPackingOver d lines cuts → IsPacking (piece_graph d lines) cuts)
 known_packings law d lines cuts valid = let both = law d lines cuts valid in (both.0, both.1)
+
+-- a cut of a packing over two lines has junctions, parts an odd number of lines, start and end counted, and loads none too much
+pub known_over : (d : DrawingValue) (one : Cut) → IsPackingOver d (4 ∷ 7 ∷ []) (one ∷ [])
+    → All (λ j. j < length (junctions_of d (4 ∷ 7 ∷ []))) one.members
+    × ((count_by (leads_out d (4 ∷ 7 ∷ []) one) (4 ∷ 7 ∷ []) + given_apart d (4 ∷ 7 ∷ []) one
+    (given_point d (4 ∷ 7 ∷ []) d.starts) (given_point d (4 ∷ 7 ∷ []) d.ends)) % 2 ≡ 1)
+    × (sum_by (λ (c : Cut). if leads_out d (4 ∷ 7 ∷ []) c 7 then c.weight else 0) (one ∷ []) ≤ 2 * cost_of_line d 7)
+known_over d one is = let odd = is.odd 0 one (omega arith) in (odd.there, odd.odd, is.loads 1 4 (omega arith))
