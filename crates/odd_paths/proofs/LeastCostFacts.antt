@@ -71,7 +71,7 @@ known_beyond is = far (is.there 0 0 (omega arith))
 pub known_length : IsPath (path None None) 0 0 0 (0 ∷ []) → (walk : List Pass) × (length (map (λ (pass : Pass). pass.line) walk) ≡ 1)
 known_length is = (is.walk, ap (λ (lines : List ℕ). length lines) is.along)
 
--- the triangle inequality, symmetry, and a cost between different junctions
+-- the triangle inequality, symmetry, and a cost between different junctions, and none from one to itself
 pub known_metric : LeastCostsAreDistances → (p : PieceValue) (i m j d f g : ℕ) → IsValidPiece p → IsLeastCost p i j d
     → IsLeastCost p i m f → IsLeastCost p m j g
     → (d ≡ f + g + 1 → ⊥) × (i ≢ j → d ≡ 0 → ⊥)
@@ -81,3 +81,17 @@ known_metric law p i m j d f g valid one two three = let are = law p valid in
 pub known_back : LeastCostsAreDistances → (p : PieceValue) (i j d f : ℕ) → IsValidPiece p → IsLeastCost p i j d → IsLeastCost p j i f
     → d ≢ f → ⊥
 known_back law p i j d f valid there back differ = differ ((law p valid).back i j d f there back)
+
+pub known_home : LeastCostsAreDistances → (p : PieceValue) (i d : ℕ) → IsValidPiece p → IsLeastCost p i i d → d ≡ 0
+known_home law p i d valid home = (law p valid).home i d home
+
+pub known_meeting : LeastCostsAreDistances → (p : PieceValue) (i m j d f g : ℕ) → IsValidPiece p → IsLeastCost p i j d
+    → IsLeastCost p i m f → IsLeastCost p j m g
+    → d ≡ f + g + 1 → ⊥
+known_meeting law p i m j d f g valid one two three more = omega (arith, more, (law p valid).meeting i m j d f g one two three)
+
+-- along the second line, of cost 5, from junction 1 to 2
+pub known_along : LeastCostsAreDistances → (i d f : ℕ) → IsValidPiece (path None None) → IsLeastCost (path None None) i 1 d
+    → IsLeastCost (path None None) i 2 f
+    → (f ≤ d + 5) × (d ≤ f + 5)
+known_along law i d f valid near far = (law (path None None) valid).along i 1 d f (record { a = 1; b = 2; cost = 5 }) refl near far
