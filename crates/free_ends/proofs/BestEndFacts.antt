@@ -1,7 +1,7 @@
 -- Worked values of the definitions, and what the parts of the promise exclude.
 use Rattle.std.proofs.Common.{◌≡◌, ◌≢◌, ◌<◌, ℕ, ◌+◌, true, false, List, [], ◌∷◌, Option, Some, None, Contains, length, arith, refl, sym, ◌∙◌}
 use Rattle.design_model.specs.Points.{origin}
-use Rattle.free_ends.proofs.Names.{AreBestEnds, BestEnds, IsBestChoice, IsCoveringWalk, IsLeastClosedCost, Pair, Pass, PieceValue, RowsValue, WalkEnds, end_distance, ends_by, is_fitting_walk, mate_of, odd_junctions, piece_with_ends, walk_cost}
+use Rattle.free_ends.proofs.Names.{AreBestEnds, BestEnds, HasFreeEnds, IsBestChoice, IsCoveringWalk, IsLeastClosedCost, Pair, Pass, PieceValue, RowsValue, WalkEnds, WalkLeads, covers, end_distance, ends_by, is_fitting_walk, mate_of, odd_junctions, piece_with_ends, walk_cost}
 use Rattle.free_ends.specs.PieceEnds.{IsFound, one_end, with_point_spot}
 use Rattle.free_ends.specs.declared.end_choice.TheConstants.{MAX_ODD}
 use Rattle.free_ends.specs.declared.piece_ends.PieceEnds.TheVariants as found
@@ -64,6 +64,11 @@ pub known_least : (p : PieceValue) (ends : Option WalkEnds) (cost : ℕ) (other 
     → walk_cost p other + 1 ≡ cost → ⊥
 known_least p ends cost other best covers less = omega (arith, best.least other covers, less)
 
+-- such a walk leads from one junction to another, and passes each line
+pub known_covering : (p : PieceValue) (walk : List Pass) (is : IsCoveringWalk p walk)
+    → WalkLeads p is.from is.to walk × (covers p.lines walk ≡ true)
+known_covering p walk is = (is.leads, is.covered)
+
 -- a walk with these ends has that cost
 pub known_walk : (p : PieceValue) (ends : Option WalkEnds) (cost : ℕ) → AreBestEnds p ends cost
     → (walk : List Pass) × (is_fitting_walk (piece_with_ends p ends) walk ≡ true) × (walk_cost p walk ≡ cost)
@@ -76,10 +81,18 @@ known_closed p cost other closed fits less = omega (arith, closed.least other fi
 
 -- best ends are not worse than none
 pub known_saving : (p : PieceValue) (best : BestEnds) → IsBestChoice p best
-    → (walk : List Pass) × (walk_cost p walk ≡ best.closed) × (is_fitting_walk p walk ≡ true)
-known_saving p best choice = (choice.closed.walk, choice.closed.costs, choice.closed.fitting)
+    → AreBestEnds p best.ends best.cost × (walk : List Pass) × (walk_cost p walk ≡ best.closed) × (is_fitting_walk p walk ≡ true)
+known_saving p best choice = (choice.ends, choice.closed.walk, choice.closed.costs, choice.closed.fitting)
 
 -- too many are more than are searched, and a piece with ends has none to find
 pub known_found : (p : PieceValue) (best : BestEnds) → (IsFound p found.TooMany → MAX_ODD < length (odd_junctions p))
     × (IsFound p (found.Best best) → IsFound p found.Given → ⊥)
 known_found p best = (λ is. is.1, λ is given. given is.0)
+
+-- a piece with a start, or with an end, has no free ends
+pub known_given : (p : PieceValue) (n : ℕ) → (HasFreeEnds (record p { start = Some n }) → ⊥)
+    × (HasFreeEnds (record p { end = Some n }) → ⊥)
+known_given p n = (λ free. given free.start, λ free. given free.end)
+  where
+    given : ◌≡◌ {A = Option ℕ} (Some n) None → ⊥
+    given is = cc
