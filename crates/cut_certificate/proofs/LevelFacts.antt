@@ -26,6 +26,11 @@ rows = record {
 abbrev pub star : LiftInput
 star = lift_input rows 5 (first ∷ around_three ∷ second ∷ last ∷ [])
 
+-- the terminals and the junctions, where a terminal is, the costs from it, and the moats
+pub known_input : (star.places ≡ 4) × (star.size ≡ 5) × (star.spot 2 ≡ 2) × (star.least 1 3 ≡ 6) × (star.least 3 4 ≡ 5)
+    × (star.moats ≡ first ∷ around_three ∷ second ∷ last ∷ [])
+known_input = (refl, refl, refl, refl, refl, refl)
+
 -- of all four, and of none but the wide ones
 pub known_widths : (width_sum (λ m. true) (first ∷ around_three ∷ second ∷ last ∷ []) ≡ 17)
     × (width_sum (λ m. nat_lt 2 m.width) (first ∷ around_three ∷ second ∷ last ∷ []) ≡ 14)

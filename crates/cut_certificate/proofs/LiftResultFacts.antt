@@ -2,6 +2,7 @@
 use Rattle.std.proofs.Common.{◌≡◌, ℕ, ◌+◌, ◌*◌, ◌<◌, List, length, All, arith}
 use Rattle.std.specs.List.{AllPairs}
 use Rattle.cut_certificate.proofs.Names.{Moat, AreLaminar, IsOddMoat, moat_load, width_of, PieceValue, Cut, total_weight, IsPlainCut, RowsValue, cost_at, terminal_of, AreLiftableMoats, IsLifted, odd_junctions, IsPacking}
+use Rattle.odd_paths.specs.LeastRows.{AreRows}
 
 -- lifted cuts are a packing of plain cuts with the width of the moats as their total, three for each junction at most
 pub known_lifted : (p : PieceValue) (moats : List Moat) (cuts : List Cut) → IsLifted p moats cuts
@@ -23,5 +24,5 @@ pub known_overload : (p : PieceValue) (rows : RowsValue) (moats : List Moat) (t 
 known_overload p rows moats t u are there below more = omega (arith, more, are.loads t u there below)
 
 pub known_moats : (p : PieceValue) (rows : RowsValue) (moats : List Moat) → AreLiftableMoats p rows moats
-    → (rows.terminals ≡ odd_junctions p) × All (IsOddMoat (length rows.terminals)) moats × AllPairs AreLaminar moats
-known_moats p rows moats are = (are.terminals, are.odd, are.laminar)
+    → AreRows p rows × (rows.terminals ≡ odd_junctions p) × All (IsOddMoat (length rows.terminals)) moats × AllPairs AreLaminar moats
+known_moats p rows moats are = (are.rows_are, are.terminals, are.odd, are.laminar)
