@@ -5,6 +5,7 @@ use Rattle.design_model.specs.Lengths.{length_of, square_of, whole_root}
 use Rattle.design_model.specs.declared.act.Act.TheVariants as act
 use Rattle.design_model.specs.declared.act.NumberedAct.{NumberedAct}
 use Rattle.design_model.specs.declared.point.Point.{Point}
+use Rattle.design_review.specs.BlockSummaries.{spans_after}
 use Rattle.design_review.specs.KeptLengths.{AreKeptLengths, IsKeptLength}
 use Rattle.design_review.specs.OpenBlocks.{HasSmallLength, continued_blocks, continued_summary, empty_block, empty_summary, summary_with_span, summary_with_stitch, summary_with_thread, with_blocks}
 use Rattle.design_review.specs.declared.open_block.BlockSummary.{BlockSummary}
@@ -36,6 +37,10 @@ begun = record { summary = three; before = Some (at 0 0) }
 
 abbrev more : List NumberedAct
 more = numbered 7 (act.Needle (at 3 4) false) ∷ numbered 9 (act.Needle (at 9 12) true) ∷ []
+
+pub known_spans : spans_after (Some (at 0 0)) more ≡ record { float = false; length = 500 } ∷ record { float = true; length = 1000 } ∷ []
+unfolding length_of square_of whole_root
+known_spans = refl
 
 pub known_continued : continued_summary begun more ≡ record { needles = 5; length = 1700; shortest = Some 50; longest = 500 }
 unfolding length_of square_of whole_root
