@@ -6,8 +6,10 @@ use Rattle.design_model.specs.declared.point.Point.{Point}
 abbrev point : ℤ → ℤ → Point
 point x y = record { x = x; y = y }
 
--- 0.3 mm across and 0.4 mm down are 0.5 mm; the diagonal of a tenth is 0.141 mm.
-pub known_lengths : map (length_of (point (pos 0) (pos 0))) (point (pos 3) (negsuc 3) ∷ point (pos 1) (pos 1) ∷ []) ≡ 500 ∷ 141 ∷ []
+-- 0.3 mm across and 0.4 mm down are 0.5 mm; the diagonal of a tenth is 0.141 mm; 3 m across and 4 m down are 5 m.
+pub known_lengths : map (length_of (point (pos 0) (pos 0)))
+    (point (pos 3) (negsuc 3) ∷ point (pos 1) (pos 1) ∷ point (pos 30000) (pos 40000) ∷ [])
+    ≡ 500 ∷ 141 ∷ 5000000 ∷ []
 unfolding length_of square_of whole_root
 known_lengths = refl
 
