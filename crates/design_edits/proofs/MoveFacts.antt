@@ -3,7 +3,7 @@ use Rattle.std.proofs.Common.{◌≡◌, ℤ, pos, negsuc, [], ◌∷◌, Some, 
 use Rattle.design_edits.proofs.Names.{Stitch, Jump, Trim, Stop, Point, DesignValue, first_out_of_range, mirror_point, mirrored, shift_point, shifted, turn_point}
 use Rattle.design_edits.specs.declared.axis.Axis.TheVariants as axis
 use Rattle.design_edits.specs.declared.motion.TheConstants.{MAX_SHIFT}
-use Rattle.design_edits.specs.Motions.{is_small_motion}
+use Rattle.design_edits.specs.Motions.{is_small_motion, motion_map}
 use Rattle.design_edits.specs.declared.motion.Motion.TheVariants as motion
 
 -- the point with those numbers
@@ -51,3 +51,9 @@ pub known_small_motion : map is_small_motion (motion.Shift (pos 60000) (negsuc 5
     ∷ motion.Shift (pos 5) (pos 60001) ∷ motion.Turn 7 ∷ motion.Mirror axis.Y ∷ [])
     ≡ true ∷ false ∷ false ∷ true ∷ true ∷ []
 known_small_motion = refl
+
+-- the maps of a shift across and down, of a quarter turn and of a mirroring
+pub known_motion_map : map (λ m. motion_map m (at (pos 1) (pos 2)))
+    (motion.Shift (pos 10) (pos 500) ∷ motion.Turn 1 ∷ motion.Mirror axis.Y ∷ [])
+    ≡ at (pos 11) (pos 502) ∷ at (negsuc 1) (pos 1) ∷ at (pos 1) (negsuc 1) ∷ []
+known_motion_map = refl
