@@ -71,6 +71,11 @@ pub known_kept : (kept : ℕ) → IsKeptLength 25 kept → (kept ≡ 18446744073
 unfolding whole_root
 known_kept kept is = is
 
+-- For the square of 3 m, nothing is kept, or 3 m.
+pub known_kept_long : (kept : ℕ) → IsKeptLength 900000000 kept → (kept ≡ 18446744073709551615) ⊎ (kept ≡ 3000000)
+unfolding whole_root
+known_kept_long kept is = is
+
 -- A table with 99 for the square 1 is wrong, whose length is 100.
 pub known_bad_table : AreKeptLengths (0 ∷ 99 ∷ []) → ⊥
 unfolding whole_root

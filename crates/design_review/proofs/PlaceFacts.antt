@@ -73,8 +73,9 @@ pub known_reach : (is_tied_at_start 10 (along (0 ∷ 20 ∷ 40 ∷ 60 ∷ 65 ∷
     × (is_tied_at_end 10 (along (0 ∷ 20 ∷ 25 ∷ 20 ∷ 40 ∷ 60 ∷ 90 ∷ [])) ≡ true)
     × (is_tied_at_end 10 (along (20 ∷ 25 ∷ 20 ∷ 40 ∷ 60 ∷ 80 ∷ 90 ∷ [])) ≡ false)
     × (is_tied_at_start 10 (along (0 ∷ 5 ∷ [])) ≡ false)
+    × (is_tied_at_start 10 (along (0 ∷ [])) ≡ false) × (is_tied_at_end 10 (along []) ≡ false)
 unfolding square_of
-known_reach = (refl, refl, refl, refl, refl)
+known_reach = (refl, refl, refl, refl, refl, refl, refl)
 
 -- The first piece is tied at its start alone, the second at its end alone, and the third, a dot, at neither.
 pub known_ties : (places_of tied (sewn (sew 0 ∷ sew 5 ∷ sew 0 ∷ sew 30 ∷ sew 50 ∷ sew 70 ∷ sew 90 ∷ sew 110 ∷ Trim
