@@ -1,5 +1,5 @@
 -- Worked bounds and steps, and what the records on bounds, told meetings and copies state.
-use Rattle.std.proofs.Common.{◌≡◌, ◌≤◌, ℕ, pos, true, false, List, [], ◌∷◌, ◌++◌, Option, Some, None, refl, arith}
+use Rattle.std.proofs.Common.{◌≡◌, ◌≤◌, ℕ, pos, true, false, List, [], ◌∷◌, ◌++◌, Option, Some, None, map, refl, arith}
 use Rattle.design_model.specs.declared.point.Point.{Point}
 use Rattle.drawing_review.specs.declared.grid_point.GridPoint.{GridPoint}
 use Rattle.drawing_review.specs.Frames.{grid_point}
@@ -7,7 +7,7 @@ use Rattle.line_meetings.specs.declared.joints.Joint.{Joint}
 use Rattle.line_meetings.specs.declared.meeting.Meeting.{Meeting}
 use Rattle.line_meetings.specs.declared.part_key.PartKey.{PartKey}
 use Rattle.line_meetings.specs.declared.span.Span.{Span}
-use Rattle.line_meetings.specs.Bounds.{IsWithinSpan, united_span}
+use Rattle.line_meetings.specs.Bounds.{IsWithinSpan, are_bounds_apart, bounds_around, united_span}
 use Rattle.line_meetings.specs.Joints.{point_by_steps, step_after, steps_around_of, steps_with}
 use Rattle.line_meetings.specs.Parts.{key_of, segment_part}
 use Rattle.line_meetings.specs.Sorting.{HasFirsts}
@@ -38,6 +38,41 @@ pub known_united : united_bounds (bounds_of (from_to (at 0 0) (at 4 1))) (bounds
   steep_difference = span 95534 95542;
 }
 known_united = refl
+
+-- the square of 2 around 5 7: twice as far in sums, and three times in flat and steep ones
+pub known_around : bounds_around 2 (grid_point (at 5 7)) ≡ record {
+  x = span 30003 30007;
+  y = span 30005 30009;
+  sum = span 60008 60016;
+  difference = span 65529 65537;
+  flat_sum = span 90013 90025;
+  steep_sum = span 90011 90023;
+  flat_difference = span 101055 101067;
+  steep_difference = span 95532 95544;
+}
+known_around = refl
+
+-- bounds of one span in all measures
+abbrev evenly : Span → Bounds
+evenly s = record {
+  x = s;
+  y = s;
+  sum = s;
+  difference = s;
+  flat_sum = s;
+  steep_sum = s;
+  flat_difference = s;
+  steep_difference = s;
+}
+
+-- one measure is enough to be apart
+pub known_bounds_apart : map (are_bounds_apart (evenly (span 0 9)))
+    (evenly (span 9 12) ∷ record (evenly (span 9 12)) { x = span 10 12 } ∷ record (evenly (span 9 12)) { y = span 10 12 }
+    ∷ record (evenly (span 9 12)) { sum = span 10 12 } ∷ record (evenly (span 9 12)) { difference = span 10 12 }
+    ∷ record (evenly (span 9 12)) { flat_sum = span 10 12 } ∷ record (evenly (span 9 12)) { steep_sum = span 10 12 }
+    ∷ record (evenly (span 9 12)) { flat_difference = span 10 12 } ∷ record (evenly (span 9 12)) { steep_difference = span 10 12 } ∷ [])
+    ≡ false ∷ true ∷ true ∷ true ∷ true ∷ true ∷ true ∷ true ∷ true ∷ []
+known_bounds_apart = refl
 
 -- a span within another is so at both ends
 pub known_least : IsWithinSpan (span 3 9) (span 2 9) → ⊥
