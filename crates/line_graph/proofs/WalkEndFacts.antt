@@ -1,7 +1,9 @@
 -- Starts and ends, worked out by hand: an angle of two lines and a stroke in one block, a stroke at the angle's first
 -- point in the next one.
-use Rattle.std.proofs.Common.{◌≡◌, ℕ, pos, true, false, List, [], ◌∷◌, Ok, Err, refl}
+use Rattle.std.proofs.Common.{◌≡◌, ℕ, pos, true, false, List, [], ◌∷◌, Option, Some, None, Ok, Err, map, refl}
 use Rattle.line_graph.proofs.DrawingNames.{Point, Spot, LineValue, DrawingValue, are_connected_spots, is_junction, end_added, start_added, walk_end_added}
+use Rattle.line_graph.specs.DrawnWalks.{KeepsGivenEnds, is_junction_of}
+use Rattle.line_graph.specs.PieceWalks.{edge_value}
 use Rattle.line_graph.specs.declared.draw_kind.DrawKind.TheVariants as kind
 
 abbrev at : ℕ → ℕ → Point
@@ -29,6 +31,23 @@ pub known_is_junction : (is_junction (drawn [] []).lines (spot 0 10 0) ≡ true)
     × (is_junction (drawn [] []).lines (spot 0 5 5) ≡ false)
     × (is_junction (drawn [] []).lines (spot 1 30 0) ≡ false)
 known_is_junction = (refl, refl, refl)
+
+-- the junctions of the angle are its ends, in its block
+pub known_is_junction_of : map (is_junction_of (drawn [] []) (0 ∷ 2 ∷ []))
+    (spot 0 10 10 ∷ spot 0 5 5 ∷ spot 0 30 0 ∷ spot 1 10 0 ∷ []) ≡ true ∷ false ∷ false ∷ false ∷ []
+known_is_junction_of = refl
+
+-- a thread keeps both ends that are given, and returns to one that is given alone
+pub known_given_ends : (start end from to : Point) (some any : Option Point)
+    → (KeepsGivenEnds (Some start) (Some end) some any → (some ≡ Some start) × (any ≡ Some end))
+    × (KeepsGivenEnds (Some start) None some any → (some ≡ Some start) × (any ≡ Some start))
+    × (KeepsGivenEnds None (Some end) some any → (some ≡ Some end) × (any ≡ Some end))
+    × (KeepsGivenEnds None None (Some from) (Some to) → Some from ≡ Some to)
+known_given_ends start end from to some any = (λ keeps. keeps, λ keeps. keeps, λ keeps. keeps, λ keeps. keeps)
+
+-- a line that isn't there adds nothing
+pub known_edge_value : edge_value (λ edge. 7) None ≡ 0
+known_edge_value = refl
 
 -- the angle connects its three ends, and not the strokes
 pub known_are_connected_spots : (are_connected_spots (drawn [] []).lines (spot 0 10 10) (spot 0 0 0) ≡ true)
