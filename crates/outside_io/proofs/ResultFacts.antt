@@ -1,5 +1,6 @@
 -- What the results of calls on the outside exclude.
 use Rattle.std.proofs.Common.{◌≡◌, ◌≢◌, ℕ, ◌+◌, ◌<◌, ◌≤◌, List, [], ◌∷◌, ◌++◌, Option, None, Some, Result, Ok, Err, IfOk, OnOk, length, take, arith, ap, ⊎_elim}
+use Rattle.std.specs.Io.KnownBytes.{Appends}
 use Rattle.outside_io.proofs.Names.{AppendsBytes, AppendsToFile, FileHolds, IsReadResult, ReadsAt, WritesFile, Failed, Blame, read_call, with_failed_call, write_call, BufferMatches, HasNoNewFault, ReadCause, ReadsWholeFile, TookBytes, WriteCause, with_bytes_taken, IsFaultless, MAX_COUNT, Rose, next_count, ReadsNextPart, ChangesOnlyFile, Files, IsFileName, MemPuts, MemSinkValue, MemCreates, MemReads, MemStoreValue, AddsPrefix, StreamPuts, SinkView, StoreView, FaultLogValue, LogsFailedCall, CallFailed, MemAppends, after_fault, StreamValue}
 use Rattle.outside_io.specs.declared.store.ReadStop.{ReadStop}
 use Rattle.outside_io.specs.declared.store.ReadStop.TheVariants as stop
@@ -105,12 +106,12 @@ pub known_parts : (old new bytes left : List ℕ) → AddsPrefix (Some old) (Som
 known_parts old new bytes left adds = (adds.first, adds.parts, adds.added)
 
 pub known_stream : (old new : StreamValue) (bytes : List ℕ) (f : Failed) → StreamPuts {T = ℕ} old new bytes (Err f)
-    → new.faults ≡ next_count old.faults
-known_stream old new bytes f puts = puts.1
+    → ((left : List ℕ) × AddsPrefix old.held new.held bytes left) × (new.faults ≡ next_count old.faults)
+known_stream old new bytes f puts = puts
 
 pub known_stream_done : (old new : StreamValue) (bytes : List ℕ) (n : ℕ) → StreamPuts {T = ℕ} old new bytes (Ok n)
-    → new.faults ≡ old.faults
-known_stream_done old new bytes n puts = puts.1
+    → Appends old.held new.held bytes × (new.faults ≡ old.faults)
+known_stream_done old new bytes n puts = puts
 
 pub known_logged : (call : Blame) (old new : FaultLogValue) (f : Failed) (n : ℕ)
     → (LogsFailedCall {T = ℕ} call old new (Err f) → new ≡ with_failed_call old call)
