@@ -1,7 +1,9 @@
+ghost use Rattle.line_meetings.specs.Meetings.{meetings_of_lines};
 ghost use Rattle.meeting_rounds.specs.FilledLines.{filled_lines, places_put};
 ghost use Rattle.meeting_rounds.specs.Rounds.{acts_on_lines_of, after_rounds, are_too_long, lines_after, round_acts, settled_lines, worked_by};
+ghost use Rattle.meeting_rounds.specs.TrackedLines.{lines_as_worked};
 ghost use Rattle.meeting_rounds.specs.declared.rounds.TheConstants.{MAX_ROUND_GAP};
-ghost use Rattle.std.specs.Prelude.{◌≡◌, ◌≤◌, IfOk, map};
+ghost use Rattle.std.specs.Prelude.{◌≡◌, ◌<◌, ◌≤◌, IfOk, map};
 
 use crate::acts::{Acts, acts_in};
 use crate::filling::filled;
@@ -11,7 +13,7 @@ use crate::puts::Put;
 use crate::segment_places::places_by_segment;
 use crate::tracked_lines::{TrackedLine, lines_of};
 use design_model::{Items, Memory};
-use line_meetings::find_meetings;
+use line_meetings::{Meeting, find_meetings};
 use line_sections::Spot;
 use std::alloc::Global;
 
@@ -33,23 +35,48 @@ pub struct WorkedLines {
 }
 
 /// Returns lines, starts and ends after rounds in which all meetings are found and acted on, until nothing is
-/// done, the lines list too many points, or the greatest number of rounds is reached. `gap` is in tenths of a
-/// millimetre.
+/// done, the lines list too many points, or the greatest number of rounds is reached. The meetings on which the first
+/// round acts are found already. `gap` is in tenths of a millimetre.
 pub fn settled(
     alloc: Global,
     lists_crossings: bool,
     gap: u16,
     worked: WorkedLines,
+    found: &[Meeting],
 ) -> Result<WorkedLines, Memory>
-    requires { gap ≤ MAX_ROUND_GAP }
+    requires gap { gap ≤ MAX_ROUND_GAP }
+    requires found { found.now ≡ meetings_of_lines gap (lines_as_worked worked.lines) }
     ensures settled { IfOk result (λ settled. settled ≡ settled_lines lists_crossings gap worked) }
     ensures starts { IfOk result (λ settled.
         map (λ s. s.block) settled.starts ≡ map (λ s. s.block) worked.starts) }
     ensures ends { IfOk result (λ settled.
         map (λ s. s.block) settled.ends ≡ map (λ s. s.block) worked.ends) }
 {
-    let settled = after(alloc, MAX_ROUNDS, lists_crossings, gap, worked)?;
+    let settled = after_found(alloc, MAX_ROUNDS, lists_crossings, gap, worked, found)?;
     Ok(settled)
+}
+
+/// Returns lines, starts and ends after a number of rounds. The meetings on which the first one acts are found already.
+fn after_found(
+    alloc: Global,
+    rounds: usize,
+    lists_crossings: bool,
+    gap: u16,
+    worked: WorkedLines,
+    found: &[Meeting],
+) -> Result<WorkedLines, Memory>
+    requires rounds { 0 < rounds }
+    requires gap { gap ≤ MAX_ROUND_GAP }
+    requires found { found.now ≡ meetings_of_lines gap (lines_as_worked worked.lines) }
+    ensures { IfOk result (λ after. after ≡ after_rounds rounds lists_crossings gap worked) }
+{
+    let acts = acts_on_found(alloc, lists_crossings, gap, worked.lines.as_slice(), found)?;
+    if acts.is_idle {
+        return Ok(worked);
+    }
+    let next = worked_on(alloc, gap, &acts, &worked)?;
+    let after = after(alloc, rounds - 1, lists_crossings, gap, next)?;
+    Ok(after)
 }
 
 /// Returns lines, starts and ends after a number of rounds.
@@ -74,6 +101,25 @@ fn after(
         left -= 1;
     }
     Ok(worked)
+}
+
+/// Returns what is done in a round on lines whose meetings are found already.
+fn acts_on_found(
+    alloc: Global,
+    lists_crossings: bool,
+    gap: u16,
+    lines: &[TrackedLine],
+    found: &[Meeting],
+) -> Result<Acts, Memory>
+    requires gap { gap ≤ MAX_ROUND_GAP }
+    requires found { found.now ≡ meetings_of_lines gap (lines_as_worked lines.now) }
+    ensures { IfOk result (λ acts. acts ≡ round_acts lists_crossings gap lines.now) }
+{
+    if are_too_long(lines) {
+        return Ok(Acts::new(alloc));
+    }
+    let acts = acts_on_meetings(alloc, lists_crossings, gap, lines, found)?;
+    Ok(acts)
 }
 
 /// Returns what is done in a round.
@@ -118,16 +164,25 @@ fn acts_on_lines(
     ensures { IfOk result (λ acts. acts ≡ acts_on_lines_of lists_crossings gap lines.now) }
 {
     let drawn = lines_of(alloc, lines)?;
-    let meetings = find_meetings(alloc, drawn.as_slice(), gap)?;
+    let found = find_meetings(alloc, drawn.as_slice(), gap)?;
+    let acts = acts_on_meetings(alloc, lists_crossings, gap, lines, found.as_slice())?;
+    Ok(acts)
+}
+
+/// Returns what is done in a round on the meetings of lines, which are found already.
+fn acts_on_meetings(
+    alloc: Global,
+    lists_crossings: bool,
+    gap: u16,
+    lines: &[TrackedLine],
+    found: &[Meeting],
+) -> Result<Acts, Memory>
+    requires gap { gap ≤ MAX_ROUND_GAP }
+    requires found { found.now ≡ meetings_of_lines gap (lines_as_worked lines.now) }
+    ensures { IfOk result (λ acts. acts ≡ acts_on_lines_of lists_crossings gap lines.now) }
+{
     let placed = placed_points(alloc, lines)?;
-    let acts = acts_in(
-        alloc,
-        lists_crossings,
-        gap,
-        &placed,
-        lines,
-        meetings.as_slice(),
-    )?;
+    let acts = acts_in(alloc, lists_crossings, gap, &placed, lines, found)?;
     Ok(acts)
 }
 

@@ -1,14 +1,13 @@
 ghost use Rattle.line_meetings.specs.Meetings.{meetings_of_lines};
-ghost use Rattle.meeting_rounds.specs.RoundLaws.{is_passed_over, unworked};
+ghost use Rattle.meeting_rounds.specs.RoundLaws.{unworked};
 ghost use Rattle.met_drawings.specs.ListedMeetings.{settled_by, unless_kept, vanished_after};
 ghost use Rattle.meeting_rounds.specs.declared.rounds.TheConstants.{MAX_ROUND_GAP};
-ghost use Rattle.std.specs.List.{list_all};
 ghost use Rattle.std.specs.Prelude.{◌≡◌, ◌≤◌, IfOk, map};
 
 use crate::copies::without_copies;
 use crate::meet_fault::VanishedLine;
 use design_model::{Items, Memory, Points};
-use line_meetings::{Meeting, MeetingKind};
+use line_meetings::Meeting;
 use line_sections::{Line, Spot};
 use meeting_rounds::{WorkedLines, lines_at_rest_stay, settled, tracked};
 use std::alloc::Global;
@@ -22,8 +21,7 @@ pub struct MeetingRule {
     pub keeps_copies: bool,
 }
 
-/// Returns lines as they are drawn, with starts and ends, after all rounds. The meetings of the lines are found
-/// already: where no round acts on them, none is made.
+/// Returns lines as they are drawn, with starts and ends, after all rounds. The meetings of the lines are found already.
 pub fn settled_drawn(
     alloc: Global,
     rule: MeetingRule,
@@ -42,10 +40,7 @@ pub fn settled_drawn(
 {
     lines_at_rest_stay();
     let worked = before_rounds(alloc, lines, starts, ends)?;
-    if are_at_rest(rule.lists_crossings, found) {
-        return Ok(worked);
-    }
-    let settled = settled(alloc, rule.lists_crossings, rule.gap, worked)?;
+    let settled = settled(alloc, rule.lists_crossings, rule.gap, worked, found)?;
     Ok(settled)
 }
 
@@ -68,23 +63,6 @@ fn before_rounds(
         starts: kept_starts,
         ends: kept_ends,
     })
-}
-
-/// Returns whether no round acts on meetings.
-fn are_at_rest(lists_crossings: bool, meetings: &[Meeting]) -> bool
-    ensures { result ≡ list_all (λ m. is_passed_over lists_crossings m.kind) meetings.now }
-{
-    meetings.iter().all(|m| rests(lists_crossings, m.kind))
-}
-
-fn rests(lists_crossings: bool, kind: MeetingKind) -> bool
-    ensures { result ≡ is_passed_over lists_crossings kind }
-{
-    match kind {
-        MeetingKind::Overlap | MeetingKind::Repeat => true,
-        MeetingKind::Crossing => !lists_crossings,
-        MeetingKind::ClosePoints | MeetingKind::BesideSegment | MeetingKind::OnSegment => false,
-    }
 }
 
 /// Returns lines without the segments that copy an earlier one, unless copies are kept.

@@ -3,7 +3,7 @@ ghost use Rattle.line_meetings.specs.Meetings.{meetings_of_lines};
 ghost use Rattle.line_sections.specs.Lines.{points_of_lines};
 ghost use Rattle.met_drawings.specs.MeetingCounts.{has_moved, is_crossing, is_left, is_put, is_repeat, left_count, meeting_counts_of, points_worked, segment_count};
 ghost use Rattle.std.specs.List.{count_by};
-ghost use Rattle.std.specs.Prelude.{◌≡◌, ◌≤◌, IfOk, length, true};
+ghost use Rattle.std.specs.Prelude.{◌≡◌, ◌≤◌, ◌↔◌, IfOk, IsTrue, length};
 
 use crate::listed_meetings::MeetingRule;
 use design_model::{Items, Memory, Point, Points};
@@ -136,7 +136,7 @@ fn left_in(
 }
 
 fn are_same_lines(one: &[Line], other: &[Line]) -> bool
-    ensures { result ≡ true → one.now ≡ other.now }
+    ensures { IsTrue result ↔ (one.now ≡ other.now) }
 {
     let mut a = one;
     let mut b = other;
@@ -154,7 +154,7 @@ fn are_same_lines(one: &[Line], other: &[Line]) -> bool
 }
 
 fn are_same_points(one: &[Point], other: &[Point]) -> bool
-    ensures { result ≡ true → one.now ≡ other.now }
+    ensures { IsTrue result ↔ (one.now ≡ other.now) }
 {
     let mut a = one;
     let mut b = other;
