@@ -12,7 +12,7 @@ use Rattle.line_meetings.specs.Joints.{point_by_steps, step_after, steps_around_
 use Rattle.line_meetings.specs.Parts.{key_of, segment_part}
 use Rattle.line_meetings.specs.Sorting.{HasFirsts}
 use Rattle.line_meetings.specs.Telling.{TellsUpTo, told}
-use Rattle.line_meetings.proofs.Names.{AreAllWithin, AreWithin, Bounds, LineSegment, bounds_of, united_bounds}
+use Rattle.line_meetings.proofs.Names.{AreAllWithin, AreWithin, Bounds, IndexedPart, LineSegment, bounds_of, united_bounds}
 
 abbrev at : ℕ → ℕ → Point
 at x y = record { x = pos x; y = pos y }
@@ -90,8 +90,8 @@ known_within outer inner are =
     (are.x, are.y, are.sum, are.difference, are.flat_sum, are.steep_sum, are.flat_difference, are.steep_difference)
 
 -- the bounds of each part are within
-pub known_all_within : (bounds : Bounds) (s t : LineSegment) → AreAllWithin bounds (s ∷ t ∷ [])
-    → AreWithin bounds (bounds_of s) × AreWithin bounds (bounds_of t)
+pub known_all_within : (bounds : Bounds) (s t : IndexedPart) → AreAllWithin bounds (s ∷ t ∷ [])
+    → AreWithin bounds (bounds_of s.part) × AreWithin bounds (bounds_of t.part)
 known_all_within bounds s t are = (are.0, are.1.0)
 
 -- points in a row

@@ -1,8 +1,8 @@
 -- Bounds that lie inside others, and parts outside of the bounds of a question.
-use Rattle.std.proofs.Common.{◌≡◌, ◌++◌, true, false, List, [], ◌∷◌, filter, arith, refl, sym, subst, ap, ◌∙◌}
+use Rattle.std.proofs.Common.{◌≡◌, ◌++◌, ℕ, true, false, List, [], ◌∷◌, filter, map, arith, refl, sym, subst, ap, ◌∙◌}
 use Rattle.std.proofs.lemmas.List.{append-nil}
 use Rattle.design_model.proofs.ListLemmas.{either_way}
-use Rattle.line_meetings.proofs.Names.{and_left, lt-ltb, ltb-true, not_from_true, AreAllWithin, AreWithin, Bounds, LineSegment, are_bounds_apart, bounds_of, answers_query, query_bounds, united_bounds}
+use Rattle.line_meetings.proofs.Names.{IndexedPart, and_left, matching_indexes, lt-ltb, ltb-true, not_from_true, AreAllWithin, AreWithin, Bounds, LineSegment, are_bounds_apart, bounds_of, answers_query, query_bounds, united_bounds}
 use Rattle.line_meetings.specs.declared.query.Query.{Query}
 use Rattle.line_meetings.specs.declared.span.Span.{Span}
 use Rattle.line_meetings.specs.Bounds.{IsWithinSpan, are_spans_apart, united_span}
@@ -73,31 +73,33 @@ unmatched : (q : Query) (t : LineSegment) → are_bounds_apart (query_bounds q) 
 unmatched q t apart = and_left _ _ (not_from_true _ apart)
 
 -- A question is about no part inside bounds that are apart from its own.
-none_matches : (q : Query) (f g : Bounds) (parts : List LineSegment) → f ≡ query_bounds q → AreAllWithin g parts
-    → are_bounds_apart f g ≡ true → filter (answers_query q) parts ≡ []
+none_matches : (q : Query) (f g : Bounds) (parts : List IndexedPart) → f ≡ query_bounds q → AreAllWithin g parts
+    → are_bounds_apart f g ≡ true → filter (λ p. answers_query q p.part) parts ≡ []
 none_matches q f g [] is inside apart = refl
-none_matches q f g (s ∷ rest) is (first, more) apart =
+none_matches q f g (p ∷ rest) is (first, more) apart =
     grind (
       arith,
       none_matches q f g rest is more apart,
-      unmatched q s (ap (λ (x : Bounds). are_bounds_apart x (bounds_of s)) (sym is) ∙ apart_inside f g (bounds_of s) first apart),
+      unmatched q p.part
+          (ap (λ (x : Bounds). are_bounds_apart x (bounds_of p.part)) (sym is) ∙ apart_inside f g (bounds_of p.part) first apart),
     )
 
-pub none_found : (q : Query) (f g : Bounds) (parts before : List LineSegment) → f ≡ query_bounds q → AreAllWithin g parts
-    → are_bounds_apart f g ≡ true → before ≡ before ++ filter (answers_query q) parts
+pub none_found : (q : Query) (f g : Bounds) (parts : List IndexedPart) (before : List ℕ) → f ≡ query_bounds q → AreAllWithin g parts
+    → are_bounds_apart f g ≡ true → before ≡ before ++ matching_indexes q parts
 none_found q f g parts before is inside apart =
-    sym (ap (λ (found : List LineSegment). before ++ found) (none_matches q f g parts is inside apart) ∙ append-nil before)
+    sym (ap (λ (some : List IndexedPart). before ++ map (λ (p : IndexedPart). p.index) some) (none_matches q f g parts is inside apart)
+    ∙ append-nil before)
 
 -- What has the united bounds inside has the next part inside, and those before it.
-pub grown : (f u : Bounds) (s : LineSegment) (rest left all : List LineSegment)
-    → ((g : Bounds) → AreWithin g f → AreAllWithin g left → AreAllWithin g all) → left ≡ s ∷ rest
-    → u ≡ united_bounds f (bounds_of s) → (g : Bounds) → AreWithin g u → AreAllWithin g rest → AreAllWithin g all
-grown f u s rest left all before is united g inside more =
-    before g (first_inside g f (bounds_of s) both) (subst (AreAllWithin g) (sym is) (second_inside g f (bounds_of s) both, more))
+pub grown : (f u : Bounds) (p : IndexedPart) (rest left all : List IndexedPart)
+    → ((g : Bounds) → AreWithin g f → AreAllWithin g left → AreAllWithin g all) → left ≡ p ∷ rest
+    → u ≡ united_bounds f (bounds_of p.part) → (g : Bounds) → AreWithin g u → AreAllWithin g rest → AreAllWithin g all
+grown f u p rest left all before is united g inside more =
+    before g (first_inside g f (bounds_of p.part) both) (subst (AreAllWithin g) (sym is) (second_inside g f (bounds_of p.part) both, more))
   where
-    both : AreWithin g (united_bounds f (bounds_of s))
+    both : AreWithin g (united_bounds f (bounds_of p.part))
     both = subst (AreWithin g) united inside
 
-pub all_inside : (f : Bounds) (left all : List LineSegment)
+pub all_inside : (f : Bounds) (left all : List IndexedPart)
     → ((g : Bounds) → AreWithin g f → AreAllWithin g left → AreAllWithin g all) → left ≡ [] → AreAllWithin f all
 all_inside f left all before is = before f (inside_itself f) (subst (AreAllWithin f) (sym is) tt)

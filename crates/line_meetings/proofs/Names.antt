@@ -5,7 +5,9 @@ pub use Rattle.std.specs.List.{flat_map}
 pub use Rattle.std.specs.Slice.Iter.{chunks_rest}
 pub use Rattle.drawing_review.specs.declared.segment.LineSegment.{LineSegment}
 pub use Rattle.line_meetings.specs.declared.bounds.Bounds.{Bounds}
+pub use Rattle.line_meetings.specs.declared.indexed_part.IndexedPart.{IndexedPart}
 pub use Rattle.line_meetings.specs.Bounds.{AreAllWithin, AreWithin, are_bounds_apart, bounds_of, united_bounds}
+pub use Rattle.line_meetings.specs.IndexedParts.{matching_indexes}
 pub use Rattle.line_meetings.specs.Joints.{are_joined_after, are_joined_by, joint_of, point_after}
 pub use Rattle.line_meetings.specs.Parts.{all_points, all_segments, is_line_end, parts_of_lines}
 pub use Rattle.line_meetings.specs.Parts.{points_after, segment_parts, segments_after}

@@ -40,23 +40,17 @@ told_all f left found all before none tells rest =
     ap (λ (parts : List LineSegment). told (found ++ (flat_map f parts ++ rest))) (sym none) ∙ tells rest
 
 -- the meetings of all kinds, one kind after another, where each tree has the parts that it was made of
-pub told_together : (gap : ℕ) (near first second third : List (List LineSegment)) (points segments : List LineSegment)
-    (again none close beside_too touched found : List Meeting) → flat_map (λ r. r) near ≡ points
-    → flat_map (λ r. r) first ≡ segments → flat_map (λ r. r) second ≡ segments → flat_map (λ r. r) third ≡ segments
-    → none ≡ [] → TellsUpTo (flat_map (close_to gap (flat_map (λ r. r) near) (flat_map (λ r. r) first)) points) none close
-    → TellsUpTo (flat_map (beside gap (flat_map (λ r. r) second)) points) close beside_too
-    → TellsUpTo (flat_map (touches (flat_map (λ r. r) third)) segments) beside_too touched → found ≡ touched ++ again
+pub told_together : (gap : ℕ) (near tree points segments : List LineSegment) (again none close beside_too touched found : List Meeting)
+    → near ≡ points → tree ≡ segments → none ≡ [] → TellsUpTo (flat_map (close_to gap near tree) points) none close
+    → TellsUpTo (flat_map (beside gap tree) points) close beside_too
+    → TellsUpTo (flat_map (touches tree) segments) beside_too touched → found ≡ touched ++ again
     → told found ≡ told (meetings_among gap points segments again)
-told_together gap near first second third points segments again none close beside_too touched found
-    of_points of_first of_second of_third empty one two three last =
+told_together gap near tree points segments again none close beside_too touched found of_points of_segments empty one two three last =
     ap told last ∙ three again
-    ∙ ap (λ (some : List LineSegment). told (beside_too ++ (flat_map (touches some) segments ++ again))) of_third
-    ∙ two (flat_map (touches segments) segments ++ again)
-    ∙ ap (λ (some : List LineSegment). told (close ++ (flat_map (beside gap some) points
-    ++ (flat_map (touches segments) segments ++ again)))) of_second
-    ∙ one (flat_map (beside gap segments) points ++ (flat_map (touches segments) segments ++ again))
-    ∙ ap (λ (some : List LineSegment). told (none ++ (flat_map (close_to gap some (flat_map (λ r. r) first)) points
-    ++ (flat_map (beside gap segments) points ++ (flat_map (touches segments) segments ++ again))))) of_points
+    ∙ two (flat_map (touches tree) segments ++ again)
+    ∙ one (flat_map (beside gap tree) points ++ (flat_map (touches tree) segments ++ again))
+    ∙ ap (λ (some : List LineSegment). told (none ++ (flat_map (close_to gap some tree) points
+    ++ (flat_map (beside gap tree) points ++ (flat_map (touches tree) segments ++ again))))) of_points
     ∙ ap (λ (some : List LineSegment). told (none ++ (flat_map (close_to gap points some) points
-    ++ (flat_map (beside gap segments) points ++ (flat_map (touches segments) segments ++ again))))) of_first
+    ++ (flat_map (beside gap some) points ++ (flat_map (touches some) segments ++ again))))) of_segments
     ∙ ap (λ (some : List Meeting). told (some ++ meetings_among gap points segments again)) empty

@@ -5,6 +5,7 @@ use Rattle.std.specs.Prelude.{ℕ, ◌+◌, ◌-◌, ◌*◌, ◌≤◌, min, ma
 use Rattle.drawing_review.specs.declared.grid_point.GridPoint.{GridPoint}
 use Rattle.drawing_review.specs.declared.segment.LineSegment.{LineSegment}
 use Rattle.line_meetings.specs.declared.bounds.Bounds.{Bounds}
+use Rattle.line_meetings.specs.declared.indexed_part.IndexedPart.{IndexedPart}
 use Rattle.line_meetings.specs.declared.span.Span.{Span}
 
 -- The span from the lesser of two numbers to the greater.
@@ -106,7 +107,7 @@ pub record AreWithin (outer inner : Bounds) : Type 0 where
   pub flat_difference : IsWithinSpan outer.flat_difference inner.flat_difference
   pub steep_difference : IsWithinSpan outer.steep_difference inner.steep_difference
 
--- The bounds of all given segments lie inside bounds.
-abbrev pub AreAllWithin : Bounds → List LineSegment → Type 0
+-- The bounds of all given parts lie inside bounds.
+abbrev pub AreAllWithin : Bounds → List IndexedPart → Type 0
 AreAllWithin bounds [] = Unit {0}
-AreAllWithin bounds (s ∷ rest) = AreWithin bounds (bounds_of s) × AreAllWithin bounds rest
+AreAllWithin bounds (p ∷ rest) = AreWithin bounds (bounds_of p.part) × AreAllWithin bounds rest

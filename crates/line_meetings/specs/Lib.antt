@@ -8,4 +8,5 @@ pub mod Telling
 -- Read this one first: where lines of a block should meet and don't.
 pub mod Meetings
 -- Used only inside this crate.
+pub mod IndexedParts
 pub mod Sorting

@@ -10,9 +10,9 @@ use crate::copies::without_copies;
 use crate::joints::{Joint, point_by, steps_of};
 use crate::meeting::{MAX_MEETINGS, Meeting, Meetings};
 use crate::meetings::{near_points, point_beside, touch};
+use crate::part_tree::PartTree;
 use crate::parts::{points, segments};
 use crate::query::Query;
-use crate::region::{Region, matches, regions};
 use design_model::Memory;
 use drawing_review::{GridPoint, LineSegment};
 use line_sections::Line;
@@ -58,19 +58,12 @@ fn found_among(
     ensures { IfOk result (λ found. told found
         ≡ told (meetings_among gap points.now segments.now again.now)) }
 {
-    let near = regions(alloc, points)?;
-    let regions = regions(alloc, segments)?;
+    let near = PartTree::of(alloc, points)?;
+    let tree = PartTree::of(alloc, segments)?;
     let mut found = Meetings::new(alloc);
-    put_all_close(
-        alloc,
-        gap,
-        near.as_slice(),
-        regions.as_slice(),
-        points,
-        &mut found,
-    )?;
-    put_all_beside(alloc, gap, regions.as_slice(), points, &mut found)?;
-    put_all_touches(alloc, regions.as_slice(), segments, &mut found)?;
+    put_all_close(alloc, gap, &near, &tree, points, &mut found)?;
+    put_all_beside(alloc, gap, &tree, points, &mut found)?;
+    put_all_touches(alloc, &tree, segments, &mut found)?;
     found.append(again)?;
     Ok(found)
 }
@@ -85,19 +78,19 @@ fn are_enough(found: &Meetings) -> bool
 fn put_all_close(
     alloc: Global,
     gap: u16,
-    near: &[Region],
-    regions: &[Region],
+    near: &PartTree,
+    tree: &PartTree,
     points: &[LineSegment],
     found: &mut Meetings,
 ) -> Result<(), Memory>
-    ensures { OnOk result (TellsUpTo (flat_map (close_to gap (flat_map (λ r. r) near.now)
-        (flat_map (λ r. r) regions.now)) points.now) found.old found.new) }
+    ensures { OnOk result (TellsUpTo (flat_map (close_to gap near.now
+        tree.now) points.now) found.old found.new) }
 {
     for p in points {
         if are_enough(found) {
             return Ok(());
         }
-        put_close(alloc, gap, near, regions, p, found)?;
+        put_close(alloc, gap, near, tree, p, found)?;
     }
     Ok(())
 }
@@ -105,36 +98,36 @@ fn put_all_close(
 fn put_all_beside(
     alloc: Global,
     gap: u16,
-    regions: &[Region],
+    tree: &PartTree,
     points: &[LineSegment],
     found: &mut Meetings,
 ) -> Result<(), Memory>
-    ensures { OnOk result (TellsUpTo (flat_map (beside gap (flat_map (λ r. r) regions.now)) points.now)
+    ensures { OnOk result (TellsUpTo (flat_map (beside gap tree.now) points.now)
         found.old found.new) }
 {
     for p in points {
         if are_enough(found) {
             return Ok(());
         }
-        put_beside(alloc, gap, regions, p, found)?;
+        put_beside(alloc, gap, tree, p, found)?;
     }
     Ok(())
 }
 
 fn put_all_touches(
     alloc: Global,
-    regions: &[Region],
+    tree: &PartTree,
     segments: &[LineSegment],
     found: &mut Meetings,
 ) -> Result<(), Memory>
-    ensures { OnOk result (TellsUpTo (flat_map (touches (flat_map (λ r. r) regions.now)) segments.now)
+    ensures { OnOk result (TellsUpTo (flat_map (touches tree.now) segments.now)
         found.old found.new) }
 {
     for s in segments {
         if are_enough(found) {
             return Ok(());
         }
-        put_touches(alloc, regions, s, found)?;
+        put_touches(alloc, tree, s, found)?;
     }
     Ok(())
 }
@@ -143,17 +136,17 @@ fn put_all_touches(
 fn put_close(
     alloc: Global,
     gap: u16,
-    near: &[Region],
-    regions: &[Region],
+    near: &PartTree,
+    tree: &PartTree,
     p: &LineSegment,
     found: &mut Meetings,
 ) -> Result<(), Memory>
-    ensures { OnOk result (found.new ≡ found.old ++ close_to gap (flat_map (λ r. r) near.now)
-        (flat_map (λ r. r) regions.now) p.now) }
+    ensures { OnOk result (found.new ≡ found.old ++ close_to gap near.now
+        tree.now p.now) }
 {
     let point = *p;
-    let close = matches(alloc, near, Query::Close { gap, point })?;
-    put_unjoined(alloc, gap, regions, p, close.as_slice(), found)?;
+    let close = near.matches(alloc, Query::Close { gap, point })?;
+    put_unjoined(alloc, gap, tree, p, close.as_slice(), found)?;
     Ok(())
 }
 
@@ -161,20 +154,20 @@ fn put_close(
 fn put_unjoined(
     alloc: Global,
     gap: u16,
-    regions: &[Region],
+    tree: &PartTree,
     p: &LineSegment,
     close: &[LineSegment],
     found: &mut Meetings,
 ) -> Result<(), Memory>
     ensures { OnOk result (found.new ≡ found.old ++ map (close_points p.now)
-        (filter (λ q. not (are_joined gap (flat_map (λ r. r) regions.now) p.now q)) close.now)) }
+        (filter (λ q. not (are_joined gap tree.now p.now q)) close.now)) }
 {
     if close.is_empty() {
         return Ok(());
     }
-    let around = steps_around(alloc, gap, regions, p)?;
+    let around = steps_around(alloc, gap, tree, p)?;
     for q in close {
-        if is_joined(alloc, gap, regions, around.as_slice(), p, q)? {
+        if is_joined(alloc, gap, tree, around.as_slice(), p, q)? {
             continue;
         }
         found.push(near_points(p, q))?;
@@ -186,18 +179,18 @@ fn put_unjoined(
 fn is_joined(
     alloc: Global,
     gap: u16,
-    regions: &[Region],
+    tree: &PartTree,
     around: &[Joint],
     p: &LineSegment,
     q: &LineSegment,
 ) -> Result<bool, Memory>
-    requires { around.now ≡ steps_around_of gap (flat_map (λ r. r) regions.now) p.now }
-    ensures { IfOk result (λ joined. joined ≡ are_joined gap (flat_map (λ r. r) regions.now) p.now q.now) }
+    requires { around.now ≡ steps_around_of gap tree.now p.now }
+    ensures { IfOk result (λ joined. joined ≡ are_joined gap tree.now p.now q.now) }
 {
     if do_meet(around, p.a, q.a) {
         return Ok(true);
     }
-    let around = steps_around(alloc, gap, regions, q)?;
+    let around = steps_around(alloc, gap, tree, q)?;
     Ok(do_meet(around.as_slice(), q.a, p.a))
 }
 
@@ -205,13 +198,13 @@ fn is_joined(
 fn steps_around(
     alloc: Global,
     gap: u16,
-    regions: &[Region],
+    tree: &PartTree,
     p: &LineSegment,
 ) -> Result<Vec<Joint>, Memory>
-    ensures { IfOk result (λ steps. steps.items ≡ steps_around_of gap (flat_map (λ r. r) regions.now) p.now) }
+    ensures { IfOk result (λ steps. steps.items ≡ steps_around_of gap tree.now p.now) }
 {
     let point = *p;
-    let around = matches(alloc, regions, Query::Around { gap, point })?;
+    let around = tree.matches(alloc, Query::Around { gap, point })?;
     steps_of(alloc, around.as_slice())
 }
 
@@ -226,14 +219,14 @@ fn do_meet(steps: &[Joint], p: GridPoint, q: GridPoint) -> bool
 fn put_beside(
     alloc: Global,
     gap: u16,
-    regions: &[Region],
+    tree: &PartTree,
     p: &LineSegment,
     found: &mut Meetings,
 ) -> Result<(), Memory>
-    ensures { OnOk result (found.new ≡ found.old ++ beside gap (flat_map (λ r. r) regions.now) p.now) }
+    ensures { OnOk result (found.new ≡ found.old ++ beside gap tree.now p.now) }
 {
     let point = *p;
-    let passed = matches(alloc, regions, Query::Beside { gap, point })?;
+    let passed = tree.matches(alloc, Query::Beside { gap, point })?;
     put_passed(gap, p, passed.as_slice(), found)?;
     Ok(())
 }
@@ -255,13 +248,13 @@ fn put_passed(
 /// Adds the later segments that cross a segment, or share more than a point with it.
 fn put_touches(
     alloc: Global,
-    regions: &[Region],
+    tree: &PartTree,
     s: &LineSegment,
     found: &mut Meetings,
 ) -> Result<(), Memory>
-    ensures { OnOk result (found.new ≡ found.old ++ touches (flat_map (λ r. r) regions.now) s.now) }
+    ensures { OnOk result (found.new ≡ found.old ++ touches tree.now s.now) }
 {
-    let touched = matches(alloc, regions, Query::Touching(*s))?;
+    let touched = tree.matches(alloc, Query::Touching(*s))?;
     put_touched(s, touched.as_slice(), found)?;
     Ok(())
 }

@@ -1,11 +1,12 @@
 ghost use Rattle.line_meetings.specs.Bounds.{AreAllWithin};
-ghost use Rattle.line_meetings.specs.Queries.{answers_query, query_bounds};
-ghost use Rattle.std.specs.Prelude.{◌≡◌, ◌++◌, IfOk, OnOk, filter};
+ghost use Rattle.line_meetings.specs.IndexedParts.{matching_indexes};
+ghost use Rattle.line_meetings.specs.Queries.{query_bounds};
+ghost use Rattle.std.specs.Prelude.{◌≡◌, ◌++◌, IfOk, OnOk};
 
 use crate::bounds::Bounds;
+use crate::indexed_part::IndexedPart;
 use crate::query::Query;
 use design_model::Memory;
-use drawing_review::LineSegment;
 use std::alloc::Global;
 use std::marker::Model;
 
@@ -13,15 +14,15 @@ use std::marker::Model;
 #[derive(Drop)]
 pub struct Group {
     bounds: Bounds,
-    parts: Vec<LineSegment>,
+    parts: Vec<IndexedPart>,
 }
 
 impl Model for Group {
-    ghost use Rattle.drawing_review.specs.declared.segment.LineSegment.{LineSegment};
-    ghost use Rattle.std.specs.Prelude.{List};
     ghost use Rattle.line_meetings.specs.Bounds.{AreAllWithin};
+    ghost use Rattle.line_meetings.specs.declared.indexed_part.IndexedPart.{IndexedPart};
+    ghost use Rattle.std.specs.Prelude.{List};
 
-    ghost Value = { List LineSegment };
+    ghost Value = { List IndexedPart };
 
     ghost view = { λ g. g.parts.items };
 
@@ -30,7 +31,7 @@ impl Model for Group {
 
 impl Group {
     /// Returns the group of some parts.
-    pub fn of(alloc: Global, some: &[LineSegment]) -> Result<Group, Memory>
+    pub fn of(alloc: Global, some: &[IndexedPart]) -> Result<Group, Memory>
         ensures { IfOk result (λ group. group ≡ some.now) }
     {
         let bounds = bounds_of_all(some);
@@ -46,16 +47,16 @@ impl Group {
         self.bounds
     }
 
-    /// Adds the parts of the group that a question is about. The bounds are those of the question.
+    /// Adds the indexes of the parts of the group that a question is about. The bounds are those of the question.
     pub fn put_matches(
         &self,
         query: &Query,
         bounds: &Bounds,
-        found: &mut Vec<LineSegment>,
+        found: &mut Vec<usize>,
     ) -> Result<(), Memory>
         requires { bounds.now ≡ query_bounds query.now }
         ensures { OnOk result (found.new.items
-            ≡ found.old.items ++ filter (answers_query query.now) self.now) }
+            ≡ found.old.items ++ matching_indexes query.now self.now) }
     {
         if bounds.is_apart(&self.bounds()) {
             return Ok(());
@@ -65,30 +66,30 @@ impl Group {
 }
 
 /// Returns bounds that have parts inside.
-pub fn bounds_of_all(parts: &[LineSegment]) -> Bounds
+pub fn bounds_of_all(parts: &[IndexedPart]) -> Bounds
     ensures { AreAllWithin result parts.now }
 {
     let mut bounds = Bounds::empty();
     for part in parts {
-        bounds = bounds.united(&Bounds::of(part));
+        bounds = bounds.united(&Bounds::of(&part.part));
     }
     bounds
 }
 
 fn put_matches_among(
-    parts: &[LineSegment],
+    parts: &[IndexedPart],
     query: &Query,
     bounds: &Bounds,
-    found: &mut Vec<LineSegment>,
+    found: &mut Vec<usize>,
 ) -> Result<(), Memory>
     requires { bounds.now ≡ query_bounds query.now }
-    ensures { OnOk result (found.new.items ≡ found.old.items ++ filter (answers_query query.now) parts.now) }
+    ensures { OnOk result (found.new.items ≡ found.old.items ++ matching_indexes query.now parts.now) }
 {
     for part in parts {
-        if !query.matches(bounds, part) {
+        if !query.matches(bounds, &part.part) {
             continue;
         }
-        found.push(*part)?;
+        found.push(part.index)?;
     }
     Ok(())
 }

@@ -1,13 +1,14 @@
 ghost use Rattle.line_meetings.specs.Bounds.{AreAllWithin};
-ghost use Rattle.line_meetings.specs.Queries.{answers_query, query_bounds};
+ghost use Rattle.line_meetings.specs.IndexedParts.{matching_indexes};
+ghost use Rattle.line_meetings.specs.Queries.{query_bounds};
 ghost use Rattle.std.specs.List.{flat_map};
-ghost use Rattle.std.specs.Prelude.{◌≡◌, ◌++◌, IfOk, OnOk, filter};
+ghost use Rattle.std.specs.Prelude.{◌≡◌, ◌++◌, IfOk, OnOk};
 
 use crate::bounds::Bounds;
 use crate::group::{Group, bounds_of_all};
+use crate::indexed_part::IndexedPart;
 use crate::query::Query;
 use design_model::Memory;
-use drawing_review::LineSegment;
 use std::alloc::Global;
 use std::marker::Model;
 
@@ -25,12 +26,12 @@ pub struct Region {
 }
 
 impl Model for Region {
-    ghost use Rattle.drawing_review.specs.declared.segment.LineSegment.{LineSegment};
-    ghost use Rattle.std.specs.Prelude.{List};
-    ghost use Rattle.std.specs.List.{flat_map};
     ghost use Rattle.line_meetings.specs.Bounds.{AreAllWithin};
+    ghost use Rattle.line_meetings.specs.declared.indexed_part.IndexedPart.{IndexedPart};
+    ghost use Rattle.std.specs.List.{flat_map};
+    ghost use Rattle.std.specs.Prelude.{List};
 
-    ghost Value = { List LineSegment };
+    ghost Value = { List IndexedPart };
 
     ghost view = { λ r. flat_map (λ g. g) r.groups.items };
 
@@ -39,7 +40,7 @@ impl Model for Region {
 
 impl Region {
     /// Returns the region of some parts.
-    fn of(alloc: Global, some: &[LineSegment]) -> Result<Region, Memory>
+    fn of(alloc: Global, some: &[IndexedPart]) -> Result<Region, Memory>
         ensures { IfOk result (λ region. region ≡ some.now) }
     {
         let bounds = bounds_of_all(some);
@@ -54,16 +55,16 @@ impl Region {
         self.bounds
     }
 
-    /// Adds the parts of the region that a question is about. The bounds are those of the question.
+    /// Adds the indexes of the parts of the region that a question is about. The bounds are those of the question.
     fn put_matches(
         &self,
         query: &Query,
         bounds: &Bounds,
-        found: &mut Vec<LineSegment>,
+        found: &mut Vec<usize>,
     ) -> Result<(), Memory>
         requires { bounds.now ≡ query_bounds query.now }
         ensures { OnOk result (found.new.items
-            ≡ found.old.items ++ filter (answers_query query.now) self.now) }
+            ≡ found.old.items ++ matching_indexes query.now self.now) }
     {
         if bounds.is_apart(&self.bounds()) {
             return Ok(());
@@ -73,7 +74,7 @@ impl Region {
 }
 
 /// Returns the groups of some parts.
-fn groups(alloc: Global, some: &[LineSegment]) -> Result<Vec<Group>, Memory>
+fn groups(alloc: Global, some: &[IndexedPart]) -> Result<Vec<Group>, Memory>
     ensures { IfOk result (λ groups. flat_map (λ g. g) groups.items ≡ some.now) }
 {
     let mut groups = Vec::new(alloc);
@@ -84,7 +85,7 @@ fn groups(alloc: Global, some: &[LineSegment]) -> Result<Vec<Group>, Memory>
 }
 
 /// Returns the regions of some parts.
-pub fn regions(alloc: Global, some: &[LineSegment]) -> Result<Vec<Region>, Memory>
+pub fn regions(alloc: Global, some: &[IndexedPart]) -> Result<Vec<Region>, Memory>
     ensures { IfOk result (λ regions. flat_map (λ r. r) regions.items ≡ some.now) }
 {
     let mut regions = Vec::new(alloc);
@@ -98,11 +99,11 @@ fn put_matches_in(
     groups: &[Group],
     query: &Query,
     bounds: &Bounds,
-    found: &mut Vec<LineSegment>,
+    found: &mut Vec<usize>,
 ) -> Result<(), Memory>
     requires { bounds.now ≡ query_bounds query.now }
     ensures { OnOk result (found.new.items
-        ≡ found.old.items ++ filter (answers_query query.now) (flat_map (λ g. g) groups.now)) }
+        ≡ found.old.items ++ matching_indexes query.now (flat_map (λ g. g) groups.now)) }
 {
     for group in groups {
         group.put_matches(query, bounds, found)?;
@@ -110,15 +111,14 @@ fn put_matches_in(
     Ok(())
 }
 
-/// Returns the parts of the regions that a question is about, in order.
-pub fn matches(alloc: Global, regions: &[Region], query: Query) -> Result<Vec<LineSegment>, Memory>
-    ensures { IfOk result (λ found. found.items
-        ≡ filter (answers_query query) (flat_map (λ r. r) regions.now)) }
+/// Returns the indexes of the parts of regions that a question is about.
+pub fn matching(alloc: Global, regions: &[Region], query: &Query) -> Result<Vec<usize>, Memory>
+    ensures { IfOk result (λ found. found.items ≡ matching_indexes query.now (flat_map (λ r. r) regions.now)) }
 {
     let bounds = query.bounds();
     let mut found = Vec::new(alloc);
     for region in regions {
-        region.put_matches(&query, &bounds, &mut found)?;
+        region.put_matches(query, &bounds, &mut found)?;
     }
     Ok(found)
 }

@@ -2,14 +2,13 @@ use Rattle.std.proofs.Common.{◌∙◌, ◌||◌, Bool, List, ap, sym}
 use Rattle.std.proofs.Math.Path.{ap₂}
 use Rattle.drawing_review.specs.Meetings.{is_same_grid_point}
 use Rattle.line_meetings.proofs.JointLemmas.{joined_around}
-use Rattle.line_meetings.proofs.Names.{flat_map}
 use Rattle.line_meetings.specs.declared.joints.Joint.{Joint}
 use Rattle.line_meetings.specs.Joints.{are_joined_around, point_by_steps}
 use Rattle.line_meetings.proofs.finding.is_joined.Goals as goal
 
 pub returns-then-do_meet : goal.returns-then-do_meet
 returns-then-do_meet c =
-    let segments = flat_map (λ r. r) c.args.regions.now in
+    let segments = c.args.tree.now in
     sym (ap (λ (joined : Bool). joined || are_joined_around c.args.gap segments c.args.q.now c.args.p.now)
     (joined_around c.args.gap segments c.args.p.now c.args.q.now
     ∙ ap (λ (steps : List Joint). is_same_grid_point (point_by_steps steps c.args.p.now.a) (point_by_steps steps c.args.q.now.a))
@@ -18,7 +17,7 @@ returns-then-do_meet c =
 
 pub returns : goal.returns
 returns c =
-    let segments = flat_map (λ r. r) c.args.regions.now in
+    let segments = c.args.tree.now in
     sym (ap₂ (λ (one other : Bool). one || other)
     (joined_around c.args.gap segments c.args.p.now c.args.q.now
     ∙ ap (λ (steps : List Joint). is_same_grid_point (point_by_steps steps c.args.p.now.a) (point_by_steps steps c.args.q.now.a))

@@ -6,5 +6,5 @@ use Rattle.line_meetings.proofs.finding.put_all_beside.Given as goal
 
 -- the meetings so far, with those of the points that are left, tell the same as all
 abbrev pub invariant-loop-p : goal.invariant-loop-p
-invariant-loop-p l = TellsFrom (flat_map (beside l.gap (flat_map (λ r. r) l.regions)) (drop l.p-index l.points)) l.found
-    (flat_map (beside l.gap (flat_map (λ r. r) l.regions)) l.points) l.fn.found
+invariant-loop-p l = TellsFrom (flat_map (beside l.gap l.tree) (drop l.p-index l.points)) l.found
+    (flat_map (beside l.gap l.tree) l.points) l.fn.found

@@ -6,6 +6,6 @@ use Rattle.line_meetings.proofs.finding.put_all_close.Given as goal
 
 -- the meetings so far, with those of the points that are left, tell the same as all
 abbrev pub invariant-loop-p : goal.invariant-loop-p
-invariant-loop-p l = TellsFrom (flat_map (close_to l.gap (flat_map (λ r. r) l.near) (flat_map (λ r. r) l.regions))
+invariant-loop-p l = TellsFrom (flat_map (close_to l.gap l.near l.tree)
     (drop l.p-index l.points)) l.found
-    (flat_map (close_to l.gap (flat_map (λ r. r) l.near) (flat_map (λ r. r) l.regions)) l.points) l.fn.found
+    (flat_map (close_to l.gap l.near l.tree) l.points) l.fn.found

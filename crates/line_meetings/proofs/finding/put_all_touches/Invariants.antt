@@ -6,5 +6,5 @@ use Rattle.line_meetings.proofs.finding.put_all_touches.Given as goal
 
 -- the meetings so far, with those of the segments that are left, tell the same as all
 abbrev pub invariant-loop-s : goal.invariant-loop-s
-invariant-loop-s l = TellsFrom (flat_map (touches (flat_map (λ r. r) l.regions)) (drop l.s-index l.segments)) l.found
-    (flat_map (touches (flat_map (λ r. r) l.regions)) l.segments) l.fn.found
+invariant-loop-s l = TellsFrom (flat_map (touches l.tree) (drop l.s-index l.segments)) l.found
+    (flat_map (touches l.tree) l.segments) l.fn.found

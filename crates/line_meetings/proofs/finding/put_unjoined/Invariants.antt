@@ -1,11 +1,10 @@
 use Rattle.std.proofs.Common.{◌≡◌, ◌++◌, drop, filter, map, not}
 use Rattle.line_meetings.specs.Joints.{are_joined}
 use Rattle.line_meetings.specs.Meetings.{close_points}
-use Rattle.line_meetings.proofs.Names.{flat_map}
 use Rattle.line_meetings.proofs.finding.put_unjoined.Given as goal
 
 -- the meetings so far, and those of the points that are left, are all
 abbrev pub invariant-loop-q : goal.invariant-loop-q
-invariant-loop-q l = l.found ++ map (close_points l.p) (filter (λ q. not (are_joined l.gap (flat_map (λ r. r) l.regions) l.p q))
+invariant-loop-q l = l.found ++ map (close_points l.p) (filter (λ q. not (are_joined l.gap l.tree l.p q))
     (drop l.q-index l.close))
-    ≡ l.fn.found ++ map (close_points l.p) (filter (λ q. not (are_joined l.gap (flat_map (λ r. r) l.regions) l.p q)) l.close)
+    ≡ l.fn.found ++ map (close_points l.p) (filter (λ q. not (are_joined l.gap l.tree l.p q)) l.close)

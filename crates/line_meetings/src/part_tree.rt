@@ -1,0 +1,84 @@
+ghost use Rattle.line_meetings.specs.IndexedParts.{matching_indexes, parts_at};
+ghost use Rattle.line_meetings.specs.Queries.{answers_query};
+ghost use Rattle.std.specs.List.{flat_map};
+ghost use Rattle.std.specs.Prelude.{◌≡◌, ◌++◌, IfOk, OnOk, drop, filter, take};
+
+use crate::part_order::in_near_order;
+use crate::query::Query;
+use crate::region::{Region, matching, regions};
+use design_model::Memory;
+use drawing_review::LineSegment;
+use std::alloc::Global;
+use std::marker::Model;
+
+/// Parts, and regions of them in which those are found that a question is about.
+#[derive(Drop)]
+pub struct PartTree {
+    parts: Vec<LineSegment>,
+    regions: Vec<Region>,
+}
+
+impl Model for PartTree {
+    ghost use Rattle.drawing_review.specs.declared.segment.LineSegment.{LineSegment};
+    ghost use Rattle.line_meetings.specs.IndexedParts.{AreIndexed};
+    ghost use Rattle.std.specs.List.{flat_map};
+    ghost use Rattle.std.specs.Prelude.{List};
+
+    ghost Value = { List LineSegment };
+
+    ghost view = { λ t. t.parts.items };
+
+    ghost invariant = { λ t. AreIndexed t.parts.items (flat_map (λ r. r) t.regions.items) };
+}
+
+impl PartTree {
+    /// Returns the tree of some parts.
+    pub fn of(alloc: Global, some: &[LineSegment]) -> Result<PartTree, Memory>
+        ensures { IfOk result (λ tree. tree ≡ some.now) }
+    {
+        let ordered = in_near_order(alloc, some)?;
+        let regions = regions(alloc, ordered.as_slice())?;
+        let mut parts = Vec::new(alloc);
+        parts.extend_from_slice(some)?;
+        Ok(PartTree { parts, regions })
+    }
+
+    /// Returns the parts that a question is about, in their order.
+    pub fn matches(&self, alloc: Global, query: Query) -> Result<Vec<LineSegment>, Memory>
+        ensures { IfOk result (λ found. found.items ≡ filter (answers_query query) self.now) }
+    {
+        let mut indexes = matching(alloc, self.regions.as_slice(), &query)?;
+        indexes.sort_unstable();
+        let found = parts_with(alloc, self.parts.as_slice(), indexes.as_slice())?;
+        Ok(found)
+    }
+}
+
+/// Returns the parts with given indexes.
+fn parts_with(
+    alloc: Global,
+    parts: &[LineSegment],
+    indexes: &[usize],
+) -> Result<Vec<LineSegment>, Memory>
+    ensures { IfOk result (λ found. found.items ≡ parts_at parts.now indexes.now) }
+{
+    let mut found = Vec::new(alloc);
+    for index in indexes {
+        put_part_at(parts, *index, &mut found)?;
+    }
+    Ok(found)
+}
+
+fn put_part_at(
+    parts: &[LineSegment],
+    index: usize,
+    found: &mut Vec<LineSegment>,
+) -> Result<(), Memory>
+    ensures { OnOk result (found.new.items ≡ found.old.items ++ take 1 (drop index parts.now)) }
+{
+    let Some(part) = parts.get(index) else {
+        return Ok(());
+    };
+    found.push(*part)?;
+    Ok(())
+}
