@@ -1,10 +1,10 @@
 -- Steps make two points one exactly where joints join them.
-use Rattle.std.proofs.Common.{◌≡◌, ◌∙◌, ℕ, List, [], ◌∷◌, ◌++◌, filter, map, refl, ap}
+use Rattle.std.proofs.Common.{◌≡◌, ◌∙◌, ℕ, Bool, true, false, ◌||◌, List, [], ◌∷◌, ◌++◌, filter, map, refl, ap, sym}
 use Rattle.std.proofs.Math.Path.{ap₂}
 use Rattle.drawing_review.specs.declared.grid_point.GridPoint.{GridPoint}
 use Rattle.drawing_review.specs.Meetings.{is_same_grid_point}
 use Rattle.line_meetings.specs.declared.joints.Joint.{Joint}
-use Rattle.line_meetings.specs.Joints.{are_joined_around, point_by_steps, step_after, steps_around_of, steps_with}
+use Rattle.line_meetings.specs.Joints.{are_joined, are_joined_around, do_steps_meet, point_by_steps, step_after, steps_around_of, steps_with}
 use Rattle.line_meetings.specs.Queries.{is_around}
 use Rattle.line_meetings.proofs.Names.{are_joined_after, are_joined_by, joint_of, point_after, LineSegment}
 
@@ -31,11 +31,25 @@ joined_after_steps steps (t ∷ rest) p q =
     (point_by_steps (steps ++ step_after steps t ∷ [])) rest p q (one_more_step steps (step_after steps t))
     ∙ joined_after_steps (steps ++ step_after steps t ∷ []) rest p q
 
-joined_by_steps : (joints : List Joint) (p q : GridPoint) → are_joined_by joints p q
-    ≡ is_same_grid_point (point_by_steps (steps_with [] joints) p) (point_by_steps (steps_with [] joints) q)
+joined_by_steps : (joints : List Joint) (p q : GridPoint) → are_joined_by joints p q ≡ do_steps_meet (steps_with [] joints) p q
 joined_by_steps joints p q = joined_after_steps [] joints p q
 
 -- The steps around a point make it and another one the same exactly where segments join them.
-pub joined_around : (gap : ℕ) (segments : List LineSegment) (p q : LineSegment) → are_joined_around gap segments p q
-    ≡ is_same_grid_point (point_by_steps (steps_around_of gap segments p) p.a) (point_by_steps (steps_around_of gap segments p) q.a)
+joined_around : (gap : ℕ) (segments : List LineSegment) (p q : LineSegment)
+    → are_joined_around gap segments p q ≡ do_steps_meet (steps_around_of gap segments p) p.a q.a
 joined_around gap segments p q = joined_by_steps (map joint_of (filter (is_around gap p) segments)) p.a q.a
+
+module _ (gap : ℕ) (segments : List LineSegment) (p q : LineSegment) (around : List Joint)
+    (is : around ≡ steps_around_of gap segments p) where
+  first_joined : (b : Bool) → do_steps_meet around p.a q.a ≡ b → are_joined_around gap segments p q ≡ b
+  first_joined b meets = joined_around gap segments p q ∙ ap (λ (steps : List Joint). do_steps_meet steps p.a q.a) (sym is) ∙ meets
+
+  -- two points are joined around the first
+  pub joined_first : do_steps_meet around p.a q.a ≡ true → true ≡ are_joined gap segments p q
+  joined_first meets = sym (ap (λ (b : Bool). b || are_joined_around gap segments q p) (first_joined true meets))
+
+  -- two points are joined around the second, or aren't
+  pub joined_second : (joined : Bool) → do_steps_meet around p.a q.a ≡ false
+      → joined ≡ do_steps_meet (steps_around_of gap segments q) q.a p.a → joined ≡ are_joined gap segments p q
+  joined_second joined never other =
+      sym (ap₂ (λ (a b : Bool). a || b) (first_joined false never) (joined_around gap segments q p ∙ sym other))

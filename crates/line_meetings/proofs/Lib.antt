@@ -5,6 +5,8 @@ mod CopyLemmas
 mod IndexFacts
 mod IndexLemmas
 mod JointLemmas
+mod KnownFacts
+mod KnownLemmas
 mod MeetingFacts
 mod TellingLemmas
 mod TouchLemmas

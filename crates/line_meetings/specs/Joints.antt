@@ -30,6 +30,10 @@ abbrev pub point_by_steps : List Joint → GridPoint → GridPoint
 point_by_steps [] p = p
 point_by_steps (t ∷ rest) p = point_by_steps rest (point_after t.b t.a p)
 
+-- Steps make two points one.
+abbrev pub do_steps_meet : List Joint → (p q : GridPoint) → Bool
+do_steps_meet steps p q = is_same_grid_point (point_by_steps steps p) (point_by_steps steps q)
+
 -- The step for a joint after others.
 abbrev pub step_after : List Joint → Joint → Joint
 step_after steps t = record { a = point_by_steps steps t.a; b = point_by_steps steps t.b }

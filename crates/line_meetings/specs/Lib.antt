@@ -9,4 +9,5 @@ pub mod Telling
 pub mod Meetings
 -- Used only inside this crate.
 pub mod IndexedParts
+pub mod KnownSteps
 pub mod Sorting

@@ -1,22 +1,25 @@
 ghost use Rattle.line_meetings.specs.declared.meeting.TheConstants.{MAX_MEETINGS};
-ghost use Rattle.drawing_review.specs.Meetings.{is_same_grid_point};
-ghost use Rattle.line_meetings.specs.Joints.{are_joined, point_by_steps, steps_around_of};
+ghost use Rattle.line_meetings.specs.Joints.{are_joined, steps_around_of};
+ghost use Rattle.line_meetings.specs.KnownSteps.{AreKnown, is_same_point_key};
 ghost use Rattle.line_meetings.specs.Meetings.{beside, close_points, close_to, meetings_among, meetings_of_lines, point_beside as point_beside_of, touch as touch_of, touches};
 ghost use Rattle.line_meetings.specs.Telling.{TellsUpTo, told};
+ghost use Rattle.std.specs.HashMap.{get};
 ghost use Rattle.std.specs.List.{flat_map};
 ghost use Rattle.std.specs.Prelude.{◌≡◌, ◌++◌, IfOk, OnOk, filter, length, map, nat_lt, not};
 
 use crate::copies::without_copies;
-use crate::joints::{Joint, point_by, steps_of};
+use crate::joints::{Joint, do_meet, steps_of};
+use crate::known_steps::{KnownSteps, keep_steps, known_to_meet};
 use crate::meeting::{MAX_MEETINGS, Meeting, Meetings};
 use crate::meetings::{near_points, point_beside, touch};
 use crate::part_tree::PartTree;
 use crate::parts::{points, segments};
 use crate::query::Query;
 use design_model::Memory;
-use drawing_review::{GridPoint, LineSegment};
+use drawing_review::LineSegment;
 use line_sections::Line;
 use std::alloc::Global;
+use std::collections::HashMap;
 
 /// Returns where lines of a block should meet and don't, with a gap in tenths of a millimetre, at most
 /// `MAX_MEETINGS + 1` of them.
@@ -86,11 +89,12 @@ fn put_all_close(
     ensures { OnOk result (TellsUpTo (flat_map (close_to gap near.now
         tree.now) points.now) found.old found.new) }
 {
+    let mut known = HashMap::new(alloc);
     for p in points {
         if are_enough(found) {
             return Ok(());
         }
-        put_close(alloc, gap, near, tree, p, found)?;
+        put_close(alloc, gap, near, tree, &mut known, p, found)?;
     }
     Ok(())
 }
@@ -138,15 +142,18 @@ fn put_close(
     gap: u16,
     near: &PartTree,
     tree: &PartTree,
+    known: &mut KnownSteps,
     p: &LineSegment,
     found: &mut Meetings,
 ) -> Result<(), Memory>
-    ensures { OnOk result (found.new ≡ found.old ++ close_to gap near.now
+    requires { AreKnown gap tree.now (get is_same_point_key known.old) }
+    ensures known { OnOk result (AreKnown gap tree.now (get is_same_point_key known.new)) }
+    ensures found { OnOk result (found.new ≡ found.old ++ close_to gap near.now
         tree.now p.now) }
 {
     let point = *p;
     let close = near.matches(alloc, Query::Close { gap, point })?;
-    put_unjoined(alloc, gap, tree, p, close.as_slice(), found)?;
+    put_unjoined(alloc, gap, tree, known, p, close.as_slice(), found)?;
     Ok(())
 }
 
@@ -155,11 +162,14 @@ fn put_unjoined(
     alloc: Global,
     gap: u16,
     tree: &PartTree,
+    known: &mut KnownSteps,
     p: &LineSegment,
     close: &[LineSegment],
     found: &mut Meetings,
 ) -> Result<(), Memory>
-    ensures { OnOk result (found.new ≡ found.old ++ map (close_points p.now)
+    requires { AreKnown gap tree.now (get is_same_point_key known.old) }
+    ensures known { OnOk result (AreKnown gap tree.now (get is_same_point_key known.new)) }
+    ensures found { OnOk result (found.new ≡ found.old ++ map (close_points p.now)
         (filter (λ q. not (are_joined gap tree.now p.now q)) close.now)) }
 {
     if close.is_empty() {
@@ -167,7 +177,7 @@ fn put_unjoined(
     }
     let around = steps_around(alloc, gap, tree, p)?;
     for q in close {
-        if is_joined(alloc, gap, tree, around.as_slice(), p, q)? {
+        if is_joined(alloc, gap, tree, known, around.as_slice(), p, q)? {
             continue;
         }
         found.push(near_points(p, q))?;
@@ -175,22 +185,30 @@ fn put_unjoined(
     Ok(())
 }
 
-/// Returns whether segments join two points within the gap of one of them. The steps are those around the first.
+/// Returns whether segments join two points within the gap of one of them. The steps are those around the first; those
+/// around the second are kept.
 fn is_joined(
     alloc: Global,
     gap: u16,
     tree: &PartTree,
+    known: &mut KnownSteps,
     around: &[Joint],
     p: &LineSegment,
     q: &LineSegment,
 ) -> Result<bool, Memory>
-    requires { around.now ≡ steps_around_of gap tree.now p.now }
-    ensures { IfOk result (λ joined. joined ≡ are_joined gap tree.now p.now q.now) }
+    requires around { around.now ≡ steps_around_of gap tree.now p.now }
+    requires known { AreKnown gap tree.now (get is_same_point_key known.old) }
+    ensures known { OnOk result (AreKnown gap tree.now (get is_same_point_key known.new)) }
+    ensures joined { IfOk result (λ joined. joined ≡ are_joined gap tree.now p.now q.now) }
 {
     if do_meet(around, p.a, q.a) {
         return Ok(true);
     }
+    if let Some(joined) = known_to_meet(known, q, p.a) {
+        return Ok(joined);
+    }
     let around = steps_around(alloc, gap, tree, q)?;
+    keep_steps(alloc, known, q, around.as_slice())?;
     Ok(do_meet(around.as_slice(), q.a, p.a))
 }
 
@@ -206,13 +224,6 @@ fn steps_around(
     let point = *p;
     let around = tree.matches(alloc, Query::Around { gap, point })?;
     steps_of(alloc, around.as_slice())
-}
-
-/// Returns whether steps make two points one.
-fn do_meet(steps: &[Joint], p: GridPoint, q: GridPoint) -> bool
-    ensures { result ≡ is_same_grid_point (point_by_steps steps.now p) (point_by_steps steps.now q) }
-{
-    point_by(steps, p) == point_by(steps, q)
 }
 
 /// Adds the segments that a point lies beside.

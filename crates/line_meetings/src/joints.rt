@@ -1,4 +1,4 @@
-ghost use Rattle.line_meetings.specs.Joints.{joint_of, point_after, point_by_steps, steps_with};
+ghost use Rattle.line_meetings.specs.Joints.{do_steps_meet, joint_of, point_after, point_by_steps, steps_with};
 ghost use Rattle.std.specs.Prelude.{◌≡◌, [], IfOk, map};
 
 use design_model::Memory;
@@ -40,4 +40,11 @@ fn point_where(from: GridPoint, to: GridPoint, p: GridPoint) -> GridPoint
     ensures { result ≡ point_after from to p }
 {
     if p == from { to } else { p }
+}
+
+/// Returns whether steps make two points one.
+pub fn do_meet(steps: &[Joint], p: GridPoint, q: GridPoint) -> bool
+    ensures { result ≡ do_steps_meet steps.now p q }
+{
+    point_by(steps, p) == point_by(steps, q)
 }

@@ -18,6 +18,7 @@ mod finding;
 mod group;
 mod indexed_part;
 mod joints;
+mod known_steps;
 mod meeting;
 mod meetings;
 mod part_key;
