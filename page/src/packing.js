@@ -1,20 +1,28 @@
 // Requests to the module and its replies as bytes: numbers of 32 bits, the low byte first, and parts with their length before.
 const SIZE = 4;
 
-// A request: the count of words and each of them, the count of files, and of each its name and its content.
-export function packRequest(words, files) {
+// The parts of a request: the count of words and each of them, the count of files, and of each its name and its content.
+export function requestParts(words, files) {
     const encoder = new TextEncoder();
-    const parts = [words.length, ...words.map(word => encoder.encode(word)), files.length,
+    return [words.length, ...words.map(word => encoder.encode(word)), files.length,
         ...files.flatMap(({ name, bytes }) => [encoder.encode(name), bytes])];
-    const lengths = parts.map(part => SIZE + (part.length ?? 0));
-    const packed = new Uint8Array(lengths.reduce((all, length) => all + length, 0)), view = new DataView(packed.buffer);
+}
+
+// The bytes that the parts of a request take.
+export function lengthOf(parts) {
+    return parts.reduce((all, part) => all + SIZE + (part.length ?? 0), 0);
+}
+
+// Packs the parts of a request where it is wanted.
+export function packParts(parts, packed) {
+    const view = new DataView(packed.buffer, packed.byteOffset, packed.length);
     let at = 0;
-    parts.forEach((part, k) => {
+    for (const part of parts) {
         view.setUint32(at, part.length ?? part, true);
-        if (part.length) packed.set(part, at + SIZE);
-        at += lengths[k];
-    });
-    return packed;
+        at += SIZE;
+        if (part.length) packed.set(part, at);
+        at += part.length ?? 0;
+    }
 }
 
 // A reply: its outcome, which is the status of the run where that is 0 to 4, what was printed, and the files that were written.

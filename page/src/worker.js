@@ -1,5 +1,5 @@
 // Runs the programs of the module, each run in an instance of its own, beside the page.
-import { packRequest, unpackReply } from "./packing.js";
+import { lengthOf, packParts, requestParts, unpackReply } from "./packing.js";
 
 // The bytes that are prepared for a reply: a number of them, more for each byte of the request, and a number that they don't exceed.
 // A longer reply is made again, in as many bytes as it needs.
@@ -13,12 +13,12 @@ function place(exports, length) {
     return at;
 }
 
-// The reply of a program, or the length that it needs where that is more than the room.
-function replyOf(program, request, room) {
+// The reply of a program, or the length that it needs where that is more than the room. The files are copied once, into the memory.
+function replyOf(program, parts, room) {
     const { exports } = new WebAssembly.Instance(compiled, {});
-    const at = place(exports, request.length), to = place(exports, room);
-    new Uint8Array(exports.memory.buffer, at, request.length).set(request);
-    const length = Number(exports[`${program}_run`](BigInt(at), BigInt(request.length), BigInt(to), BigInt(room)));
+    const given = lengthOf(parts), at = place(exports, given), to = place(exports, room);
+    packParts(parts, new Uint8Array(exports.memory.buffer, at, given));
+    const length = Number(exports[`${program}_run`](BigInt(at), BigInt(given), BigInt(to), BigInt(room)));
     const memory = exports.memory.buffer.byteLength;
     return length > room ? { length } : { ...unpackReply(new Uint8Array(exports.memory.buffer, to, length)), memory };
 }
@@ -30,9 +30,9 @@ onmessage = ({ data: { module, id, program, words, files } }) => {
     }
     const started = performance.now();
     try {
-        const request = packRequest(words, files), room = Math.min(ROOM + ROOM_EACH * request.length, ROOM_MOST);
-        const first = replyOf(program, request, room);
-        const reply = first.length ? replyOf(program, request, first.length) : first;
+        const parts = requestParts(words, files), room = Math.min(ROOM + ROOM_EACH * lengthOf(parts), ROOM_MOST);
+        const first = replyOf(program, parts, room);
+        const reply = first.length ? replyOf(program, parts, first.length) : first;
         postMessage({ id, milliseconds: performance.now() - started, ...reply });
     } catch (why) {
         postMessage({ id, milliseconds: performance.now() - started, failed: String(why) });

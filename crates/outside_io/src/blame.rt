@@ -18,7 +18,7 @@ pub enum CallKind {
 
 /// A log of failed calls: their number, up to the maximum count, and the last of them.
 #[derive(Drop)]
-pub(crate) struct FaultLog {
+pub struct FaultLog {
     count: u64,
     kind: Option<CallKind>,
     name: ArrayVec<u8, MAX_NAME>,
@@ -37,7 +37,7 @@ impl Model for FaultLog {
 
 impl FaultLog {
     /// Returns the log without failed calls.
-    pub(crate) fn new() -> Self
+    pub fn new() -> Self
         ensures { result ≡ no_faults }
     {
         FaultLog {
@@ -48,7 +48,7 @@ impl FaultLog {
     }
 
     /// Records a failed call of that kind on that file name.
-    pub(crate) fn note(&mut self, kind: CallKind, name: &str)
+    pub fn note(&mut self, kind: CallKind, name: &str)
         requires { length name.now ≤ MAX_NAME }
         ensures value { self.new ≡ with_failed_call self.old (store_call kind name.now) }
         ensures cause { CallFailed (hidden_files self.old) (hidden_files self.new)

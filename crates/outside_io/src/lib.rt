@@ -32,12 +32,12 @@ mod whole_files;
 mod writing;
 
 pub use arguments::program_words;
-pub use blame::CallKind;
+pub use blame::{CallKind, FaultLog};
 pub use dir_store::DirStore;
 pub use file_names::is_name;
 pub use limits::MAX_NAME;
 pub use mem_sink::MemSink;
-pub use mem_store::MemStore;
+pub use mem_store::{MemStore, copy_from};
 pub use sink::Sink;
 pub use std_sink::StdSink;
 pub use store::{Failed, ReadStop, Store};

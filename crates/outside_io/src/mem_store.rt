@@ -158,7 +158,7 @@ impl Store for MemStore {
 }
 
 /// Copies bytes of the content from the offset on, up to the length of the buffer, and returns their number.
-fn copy_from(content: &[u8], at: u64, buffer: &mut [u8]) -> usize
+pub fn copy_from(content: &[u8], at: u64, buffer: &mut [u8]) -> usize
     requires { at ≤ MAX_FILE }
     ensures count { result ≡ min (length buffer.old) (length (drop at content.now)) }
     ensures bytes { take result buffer.new ≡ take result (drop at content.now) }

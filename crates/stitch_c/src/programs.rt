@@ -16,7 +16,7 @@ impl TaskProgram for StitchProgram {
     fn run(
         alloc: Global,
         words: &[String],
-        store: &mut GrowingStore,
+        store: &mut GrowingStore<'_>,
         out: &mut GrowingSink,
         err: &mut GrowingSink,
     ) -> Result<Status, AllocError> {
@@ -35,7 +35,7 @@ impl TaskProgram for DrawingProgram {
     fn run(
         alloc: Global,
         words: &[String],
-        store: &mut GrowingStore,
+        store: &mut GrowingStore<'_>,
         out: &mut GrowingSink,
         err: &mut GrowingSink,
     ) -> Result<Status, AllocError> {
@@ -54,7 +54,7 @@ impl TaskProgram for PictureProgram {
     fn run(
         alloc: Global,
         words: &[String],
-        store: &mut GrowingStore,
+        store: &mut GrowingStore<'_>,
         out: &mut GrowingSink,
         err: &mut GrowingSink,
     ) -> Result<Status, AllocError> {
@@ -73,7 +73,7 @@ impl TaskProgram for DesignProgram {
     fn run(
         alloc: Global,
         words: &[String],
-        store: &mut GrowingStore,
+        store: &mut GrowingStore<'_>,
         out: &mut GrowingSink,
         err: &mut GrowingSink,
     ) -> Result<Status, AllocError> {

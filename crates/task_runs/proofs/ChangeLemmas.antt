@@ -1,13 +1,13 @@
 -- Each file that a run left and that wasn't given so is among those of a list of all names.
-use Rattle.std.proofs.Common.{refl, ◌≡◌, ℕ, Bool, true, false, [], ◌∷◌, ◌++◌, List, Some, None}
+use Rattle.std.proofs.Common.{refl, ◌≡◌, ℕ, Bool, true, false, [], ◌∷◌, ◌++◌, List, Some}
 use Rattle.std.proofs.lemmas.List.{append_assoc}
 use Rattle.std.proofs.lemmas.Slice.Eq.{bytes_eq-Decides}
 use Rattle.std.specs.Str.{bytes_eq}
 use Rattle.outside_io.specs.Files.{Files}
 use Rattle.task_runs.specs.Packing.{FileValue}
-use Rattle.task_runs.specs.NameLists.{ListsFiles, is_listed}
+use Rattle.task_runs.specs.NameLists.{is_listed}
 use Rattle.task_runs.specs.Replies.{EachChangeIsListed, IsAmong, changed_file, changed_files, is_given}
-use Rattle.task_runs.specs.TaskViews.{content_in}
+use Rattle.task_runs.specs.FileLists.{content_in}
 
 is_changed : (given : List FileValue) (left : Files) (names : List (List ℕ)) (name content : List ℕ) → is_listed names name ≡ true
     → left name ≡ Some content → is_given (content_in given name) content ≡ false

@@ -1,9 +1,10 @@
 mod ChangeLemmas
 mod OutcomeFacts
 mod OutcomeLemmas
-mod RoomLemmas
+mod GivenLemmas
 mod RoomListLemmas
 mod StoreLemmas
+mod WriteLemmas
 mod ReadingLemmas
 mod TaskFacts
 mod ReplyFacts

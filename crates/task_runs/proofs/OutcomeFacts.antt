@@ -1,17 +1,17 @@
 -- Worked values of where a run begins, of replies and of what is returned, by hand.
-use Rattle.std.proofs.Common.{◌≡◌, ℕ, [], ◌∷◌, ◌++◌, List, None, Option, Some, ◌⊎◌, true, arith, inl, inr, refl, subst, sym}
+use Rattle.std.proofs.Common.{◌≡◌, ℕ, [], ◌∷◌, ◌++◌, List, None, Some, ◌⊎◌, true, arith, inl, inr, refl, subst, sym}
 use Rattle.program_shell.specs.declared.status.Status.TheVariants as status
-use Rattle.program_shell.specs.declared.status.Status.{Status}
 use Rattle.program_shell.specs.RunViews.{Views}
 use Rattle.outside_io.specs.Files.{Files}
-use Rattle.outside_io.specs.MemStores.{files_of}
 use Rattle.task_runs.specs.declared.task_fault.TaskFault.TheVariants as fault
 use Rattle.task_runs.specs.Packing.{FileValue, ReplyValue, TaskValue, packed_reply, packed_task}
 use Rattle.task_runs.specs.NameLists.{ListsFiles, is_listed, with_name}
 use Rattle.task_runs.specs.Outcomes.{IsReply, IsReturned, IsRunReply, RunClause}
 use Rattle.task_runs.specs.Outcomes.IsReply.{ran, refused}
 use Rattle.task_runs.specs.Replies.{IsAmong, changed_files, fault_reply}
-use Rattle.task_runs.specs.TaskViews.{content_in, store_of, views_before}
+use Rattle.task_runs.specs.FileLists.{content_in}
+use Rattle.task_runs.specs.TaskStores.{files_now, store_of}
+use Rattle.task_runs.specs.TaskViews.{views_before}
 
 -- files `a` with 1, `b` with 2, and `a` with 3
 abbrev given : List FileValue
@@ -25,7 +25,7 @@ known_contents = (refl, (refl, refl))
 
 -- files after a run: `a` with 1, `b` with 2 and `c` with 4
 abbrev left : Files
-left = files_of (store_of (record { name = 97 ∷ []; content = 1 ∷ [] } ∷ record { name = 98 ∷ []; content = 2 ∷ [] }
+left = files_now (store_of (record { name = 97 ∷ []; content = 1 ∷ [] } ∷ record { name = 98 ∷ []; content = 2 ∷ [] }
     ∷ record { name = 99 ∷ []; content = 4 ∷ [] } ∷ []))
 
 -- of the names `c`, `d`, `b` and `a` two have a file that wasn't given so
@@ -114,7 +114,7 @@ known_among file is = nowhere is.0 is.1 is.2
 -- before a run nothing is printed or reported, and no fault is counted
 pub known_views : ((views_before given).out ≡ record { taken = Some []; faults = 0 })
     × ((views_before given).err ≡ record { taken = Some []; faults = 0 }) × ((views_before given).store.faults ≡ 0)
-    × ((views_before given).store.files ≡ Some (files_of (store_of given)))
+    × ((views_before given).store.files ≡ Some (files_now (store_of given)))
 known_views = (refl, refl, refl, refl)
 
 -- bytes that are no task have the reply about their first fault, or that about memory

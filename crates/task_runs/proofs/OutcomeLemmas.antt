@@ -1,7 +1,6 @@
 -- What a call returns, put together from what its steps do.
 use Rattle.std.proofs.Common.{◌≡◌, ℕ, List, Ok, Err, refl, subst}
 use Rattle.design_model.specs.OutOfMemory.{UnlessOutOfMemory}
-use Rattle.outside_io.specs.MemStores.{MemStoreValue, files_of, store_view}
 use Rattle.program_shell.specs.RunViews.{Views, views_of}
 use Rattle.program_shell.specs.declared.status.Status.{Status}
 use Rattle.task_runs.specs.Packing.{FileValue, ReplyValue, TaskValue, packed_reply}
@@ -10,20 +9,21 @@ use Rattle.task_runs.specs.TaskValues.{task_is_out_of_memory}
 use Rattle.task_runs.specs.declared.task_fault.TaskFault.{TaskFault}
 use Rattle.task_runs.specs.GrowingSinks.{GrowingSinkValue, empty_growing_sink, growing_view}
 use Rattle.task_runs.specs.NameLists.{ListsFiles}
-use Rattle.task_runs.specs.Outcomes.{IsReply, IsRunReply, IsReturned, ReturnsOutcome, RunClause}
+use Rattle.task_runs.specs.Outcomes.{IsRunReply, IsReturned, ReturnsOutcome, RunClause}
 use Rattle.task_runs.specs.Outcomes.IsReply.{ran, refused}
 use Rattle.task_runs.specs.Replies.{fault_reply, reply_of}
-use Rattle.task_runs.specs.TaskViews.{store_of, views_before}
+use Rattle.task_runs.specs.TaskStores.{TaskStoreValue, files_now, store_of, task_store_view}
+use Rattle.task_runs.specs.TaskViews.{views_before}
 
 -- the reply of a run
-pub run_reply : (Ends : RunClause) (task : TaskValue) (s : Status) (store : MemStoreValue) (names : List (List ℕ))
-    (out err : GrowingSinkValue) → ListsFiles names (files_of store)
-    → Ends task.words (views_before task.files) (views_of (store_view store) (growing_view out) (growing_view err)) s
+pub run_reply : (Ends : RunClause) (task : TaskValue) (s : Status) (store : TaskStoreValue) (names : List (List ℕ))
+    (out err : GrowingSinkValue) → ListsFiles names (files_now store)
+    → Ends task.words (views_before task.files) (views_of (task_store_view store) (growing_view out) (growing_view err)) s
     → IsRunReply Ends task (reply_of task s store names out err)
 run_reply Ends task s store names out err listed ends = record {
   status = s;
-  after = views_of (store_view store) (growing_view out) (growing_view err);
-  left = files_of store;
+  after = views_of (task_store_view store) (growing_view out) (growing_view err);
+  left = files_now store;
   ends = ends;
   outcome = refl;
   out = refl;
@@ -58,15 +58,15 @@ refused_outcome Ends request bytes before after count why cause same returned = 
 }
 
 -- a run begins with the files of its task, and with sinks without bytes
-pub same_start : (Ends : RunClause) (words given : List (List ℕ)) (files : List FileValue) (store : MemStoreValue)
+pub same_start : (Ends : RunClause) (words given : List (List ℕ)) (files : List FileValue) (store : TaskStoreValue)
     (out err : GrowingSinkValue) (after : Views) (s : Status) → words ≡ given → store ≡ store_of files → out ≡ empty_growing_sink
-    → err ≡ empty_growing_sink → Ends words (views_of (store_view store) (growing_view out) (growing_view err)) after s
+    → err ≡ empty_growing_sink → Ends words (views_of (task_store_view store) (growing_view out) (growing_view err)) after s
     → Ends given (views_before files) after s
 same_start Ends words given files store out err after s is_words is_store is_out is_err ends =
-    let begun = views_of (store_view (store_of files)) in
+    let begun = views_of (task_store_view (store_of files)) in
     let sinks = growing_view empty_growing_sink in
     subst (λ (e : GrowingSinkValue). Ends given (begun sinks (growing_view e)) after s) is_err
     (subst (λ (o : GrowingSinkValue). Ends given (begun (growing_view o) (growing_view err)) after s) is_out
-    (subst (λ (m : MemStoreValue). Ends given (views_of (store_view m) (growing_view out) (growing_view err)) after s) is_store
-    (subst (λ (ws : List (List ℕ)). Ends ws (views_of (store_view store) (growing_view out) (growing_view err)) after s) is_words
+    (subst (λ (m : TaskStoreValue). Ends given (views_of (task_store_view m) (growing_view out) (growing_view err)) after s) is_store
+    (subst (λ (ws : List (List ℕ)). Ends ws (views_of (task_store_view store) (growing_view out) (growing_view err)) after s) is_words
     ends)))

@@ -1,7 +1,8 @@
 -- Worked values of tasks and replies, and what the relations on them exclude.
 use Rattle.std.proofs.Common.{◌≡◌, ◌≢◌, ◌∙◌, ℕ, false, List, length, [], ◌∷◌, Option, Some, None, Result, Ok, Err, map, string_bytes, refl, sym}
 use Rattle.outside_io.specs.Files.{Files}
-use Rattle.outside_io.specs.MemStores.{empty_store, files_of, room_raised}
+use Rattle.outside_io.specs.Blames.{FaultLogValue, no_faults}
+use Rattle.outside_io.specs.MemStores.{empty_store, file_set, room_raised}
 use Rattle.program_shell.specs.declared.status.Status.TheVariants as status
 use Rattle.task_runs.specs.NameLists.{ListsFiles, ListsRooms}
 use Rattle.task_runs.specs.Outcomes.{IsReply, IsReturned, ReturnsOutcome, RunClause}
@@ -9,7 +10,8 @@ use Rattle.task_runs.specs.Packing.{FileValue, ReplyValue, packed_reply}
 use Rattle.task_runs.specs.Replies.{EachChangeIsListed, IsAmong, changed_files, is_given, reply_of}
 use Rattle.task_runs.specs.TaskReading.{Read}
 use Rattle.task_runs.specs.TaskValues.{IsReadAs, file_value, joined, task_value}
-use Rattle.task_runs.specs.TaskViews.{StoreHasTheFiles, content_in, store_of}
+use Rattle.task_runs.specs.FileLists.{content_in}
+use Rattle.task_runs.specs.TaskStores.{KeepsFiles, StoreHasTheFiles, TaskStoreValue, files_now, store_of, task_store_view}
 use Rattle.task_runs.specs.declared.task.Task.{Task}
 use Rattle.task_runs.specs.declared.task_fault.TaskFault.{TaskFault}
 use Rattle.task_runs.specs.declared.task_fault.TaskFault.TheVariants as fault
@@ -60,11 +62,11 @@ known_joined = (refl, refl)
 abbrev twice : List FileValue
 twice = record { name = a; content = 1 ∷ [] } ∷ record { name = a; content = 3 ∷ [] } ∷ []
 
-pub refuted_earlier_file : StoreHasTheFiles → files_of (store_of twice) a ≡ Some (1 ∷ []) → ⊥
+pub refuted_earlier_file : StoreHasTheFiles → files_now (store_of twice) a ≡ Some (1 ∷ []) → ⊥
 refuted_earlier_file law is = let same : ◌≡◌ {A = Option (List ℕ)} (Some (3 ∷ [])) (Some (1 ∷ [])) = sym (law twice a) ∙ is in absurd (cc)
 
 pub applied_files : StoreHasTheFiles → (files : List FileValue) (name : List ℕ) (other : Option (List ℕ))
-    → other ≢ content_in files name → files_of (store_of files) name ≡ other → ⊥
+    → other ≢ content_in files name → files_now (store_of files) name ≡ other → ⊥
 applied_files law files name other differ is = differ (sym is ∙ law files name)
 
 -- a file that a run left is in the reply, where its name is listed and it wasn't given so
@@ -84,3 +86,31 @@ known_reply = refl
 pub known_outcome_returned : (Ends : RunClause) (request before after : List ℕ) (count : ℕ) → ReturnsOutcome Ends request before after count
     → (reply : ReplyValue) × IsReply Ends request reply × IsReturned (packed_reply reply) before after count
 known_outcome_returned Ends request before after count returns = (returns.reply, returns.is, returns.returned)
+
+-- files `a` with 1, which was given, and with 2, which was written since, and one fault that isn't blamed
+abbrev once : List FileValue
+once = record { name = a; content = 1 ∷ [] } ∷ []
+
+abbrev faults : FaultLogValue
+faults = record { count = 1; last = None }
+
+abbrev kept : TaskStoreValue
+kept = record { given = once; written = empty_store; log = faults }
+
+abbrev changed : TaskStoreValue
+changed = record { given = once; written = file_set empty_store a (2 ∷ []); log = faults }
+
+-- what is written counts before what was given, and other names have no file
+pub known_files_now : (files_now kept a ≡ Some (1 ∷ [])) × (files_now changed a ≡ Some (2 ∷ [])) × (files_now changed b ≡ None)
+    × ((task_store_view changed).faults ≡ 1) × ((task_store_view changed).blame ≡ None)
+    × ((task_store_view changed).files ≡ Some (files_now changed)) × ((store_of once).log ≡ no_faults)
+    × (files_now (store_of once) a ≡ Some (1 ∷ []))
+known_files_now = (refl, refl, refl, refl, refl, refl, refl, refl)
+
+-- what was written isn't what was given
+pub refuted_keeps : KeepsFiles kept changed → ⊥
+refuted_keeps is = let same : ◌≡◌ {A = Option (List ℕ)} (Some (2 ∷ [])) (Some (1 ∷ [])) = is.files a in absurd (cc)
+
+pub known_keeps : (old new : TaskStoreValue) → KeepsFiles old new → (new.log ≡ old.log)
+    × ((other : List ℕ) → files_now new other ≡ files_now old other)
+known_keeps old new is = (is.log, is.files)

@@ -1,6 +1,5 @@
 -- The list of names of a store has each name with room, whatever is done to the store.
-use Rattle.std.proofs.Common.{arith, refl, sym, subst, ◌≡◌, ℕ, Bool, true, false, [], ◌∷◌, ◌++◌, ◌||◌, not, List, Option, Some, None, IsSome, Result, Ok, Err, if◌then◌else◌, is_some, option_and_then, option_map}
-use Rattle.std.proofs.lemmas.Bool.Decides.{nat_tests}
+use Rattle.std.proofs.Common.{refl, sym, subst, ◌≡◌, ℕ, Bool, true, false, [], ◌∷◌, ◌++◌, ◌||◌, not, List, Option, Some, None, IsSome, Result, Ok, Err, if◌then◌else◌, is_some, option_and_then, option_map}
 use Rattle.std.proofs.lemmas.List.Folds.{list_any-append}
 use Rattle.std.proofs.lemmas.Slice.Eq.{bytes_eq-Decides}
 use Rattle.std.specs.Str.{bytes_eq}
@@ -21,7 +20,7 @@ neither false true is = absurd (cc)
 neither false false is = (refl, refl)
 
 -- a name that the longer list lacks
-lacks_more : (names : List (List ℕ)) (name other : List ℕ) → is_listed (with_name names name) other ≡ false
+pub lacks_more : (names : List (List ℕ)) (name other : List ℕ) → is_listed (with_name names name) other ≡ false
     → (is_listed names other ≡ false) × (bytes_eq name other ≡ false)
 lacks_more names name other lacks = by_test (is_listed names name) refl lacks
   where

@@ -1,5 +1,7 @@
 pub mod GrowingSinks
+pub mod FileLists
 pub mod NameLists
+pub mod TaskStores
 -- Where a run of a task begins.
 pub mod TaskViews
 pub mod Replies

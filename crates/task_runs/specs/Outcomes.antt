@@ -1,7 +1,7 @@
 -- What a call returns: the packed reply, and how many bytes it has. The reply is that of a run of
 -- the task, or names what is wrong with the request. What a run guarantees is the program's own
 -- statement (`Ends`), of the arguments, the views before and after the run, and its exit status.
-use Rattle.std.specs.Prelude.{◌≡◌, ℕ, ◌<◌, ◌≤◌, ◌⊎◌, List, ◌++◌, length, drop, Ok, Err, Some}
+use Rattle.std.specs.Prelude.{◌≡◌, ℕ, ◌<◌, ◌≤◌, List, ◌++◌, length, drop, Ok, Err, Some}
 use Rattle.design_model.specs.OutOfMemory.{UnlessOutOfMemory}
 use Rattle.outside_io.specs.Files.{Files}
 use Rattle.program_shell.specs.declared.status.Status.{Status}

@@ -1,5 +1,5 @@
 -- Tasks of the code as values, and results of reading them.
-use Rattle.std.specs.Prelude.{◌≡◌, ℕ, Bool, true, false, List, ◌++◌, map, Result, Ok, Err, string_bytes}
+use Rattle.std.specs.Prelude.{◌≡◌, Bool, true, false, List, ◌++◌, map, Result, Ok, Err, string_bytes}
 use Rattle.design_model.specs.OutOfMemory.{UnlessOutOfMemory}
 use Rattle.task_runs.specs.declared.task.Task.{Task}
 use Rattle.task_runs.specs.declared.task.TaskFile.{TaskFile}

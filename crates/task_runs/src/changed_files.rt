@@ -1,9 +1,10 @@
-ghost use Rattle.outside_io.specs.MemStores.{files_of};
-ghost use Rattle.std.specs.Prelude.{◌≡◌, ◌∷◌, [], ◌++◌, IfOk, OnOk, map, option_map, string_bytes};
-ghost use Rattle.task_runs.specs.TaskValues.{file_value};
+ghost use Rattle.std.specs.Prelude.{◌≡◌, ◌++◌, IfOk, OnOk, map, string_bytes};
+ghost use Rattle.task_runs.specs.FileLists.{content_in};
 ghost use Rattle.task_runs.specs.Replies.{changed_file, changed_files, is_given};
-ghost use Rattle.task_runs.specs.TaskViews.{content_after, content_in};
+ghost use Rattle.task_runs.specs.TaskStores.{files_now};
+ghost use Rattle.task_runs.specs.TaskValues.{file_value};
 
+use crate::file_lists::content_in;
 use crate::growing_store::GrowingStore;
 use crate::task::TaskFile;
 use design_model::{Items, Memory};
@@ -13,11 +14,11 @@ use std::alloc::Global;
 pub(crate) fn changed_files<'a>(
     alloc: Global,
     given: &[TaskFile<'_>],
-    store: &'a GrowingStore,
+    store: &'a GrowingStore<'_>,
     names: &'a [String],
 ) -> Result<Items<TaskFile<'a>>, Memory>
     ensures { IfOk result (λ files. map file_value files
-        ≡ changed_files (map file_value given.now) (files_of store.now) (map string_bytes names.now)) }
+        ≡ changed_files (map file_value given.now) (files_now store.now) (map string_bytes names.now)) }
 {
     let mut files = Items::new(alloc);
     for name in names {
@@ -30,11 +31,11 @@ pub(crate) fn changed_files<'a>(
 fn add_if_changed<'a>(
     files: &mut Items<TaskFile<'a>>,
     given: &[TaskFile<'_>],
-    store: &'a GrowingStore,
+    store: &'a GrowingStore<'_>,
     name: &'a str,
 ) -> Result<(), Memory>
     ensures { OnOk result (map file_value files.new ≡ map file_value files.old
-        ++ changed_file (content_in (map file_value given.now) name.now) name.now (files_of store.now name.now)) }
+        ++ changed_file (content_in (map file_value given.now) name.now) name.now (files_now store.now name.now)) }
 {
     let Some(content) = store.file(name) else {
         return Ok(());
@@ -54,26 +55,4 @@ fn is_given(given: &[TaskFile<'_>], name: &str, content: &[u8]) -> bool
         Some(found) => found == content,
         None => false,
     }
-}
-
-/// Returns the content of a name among files, of which the later counts.
-fn content_in<'a>(files: &[TaskFile<'a>], name: &str) -> Option<&'a [u8]>
-    ensures { option_map (λ bytes. bytes.now) result ≡ content_in (map file_value files.now) name.now }
-{
-    let mut found = None;
-    for file in files {
-        found = later(found, *file, name);
-    }
-    found
-}
-
-/// Returns the content of a file if it has that name, and else what was found before.
-fn later<'a>(found: Option<&'a [u8]>, file: TaskFile<'a>, name: &str) -> Option<&'a [u8]>
-    ensures { option_map (λ bytes. bytes.now) result
-        ≡ content_after (option_map (λ bytes. bytes.now) found.entry) (file_value file.entry ∷ []) name.now }
-{
-    if file.name == name {
-        return Some(file.content);
-    }
-    found
 }

@@ -12,6 +12,7 @@
 
 mod changed_files;
 mod faults;
+mod file_lists;
 mod growing_sink;
 mod growing_store;
 mod names;

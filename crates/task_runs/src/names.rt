@@ -1,8 +1,22 @@
-ghost use Rattle.std.specs.Prelude.{◌≡◌, OnErr, OnOk, map, string_bytes};
-ghost use Rattle.task_runs.specs.NameLists.{is_listed, with_name};
+ghost use Rattle.std.specs.Prelude.{◌≡◌, IfOk, OnErr, OnOk, map, string_bytes};
+ghost use Rattle.task_runs.specs.FileLists.{content_in};
+ghost use Rattle.task_runs.specs.NameLists.{ListsFiles, is_listed, with_name};
+ghost use Rattle.task_runs.specs.TaskValues.{file_value};
 
+use crate::task::TaskFile;
 use design_model::{Items, Memory};
 use std::alloc::Global;
+
+/// Returns the names of files, each once.
+pub(crate) fn names_of(alloc: Global, files: &[TaskFile<'_>]) -> Result<Items<String>, Memory>
+    ensures { IfOk result (λ names. ListsFiles (map string_bytes names) (content_in (map file_value files.now))) }
+{
+    let mut names = Items::new(alloc);
+    for file in files {
+        add_name(alloc, &mut names, file.name)?;
+    }
+    Ok(names)
+}
 
 /// Adds a name to a list that doesn't have it. An error leaves the list unchanged.
 pub(crate) fn add_name(alloc: Global, names: &mut Items<String>, name: &str) -> Result<(), Memory>

@@ -1,7 +1,7 @@
 ghost use Rattle.task_runs.specs.GrowingSinks.{growing_view};
-ghost use Rattle.outside_io.specs.MemStores.{store_view};
 ghost use Rattle.program_shell.specs.RunViews.{views_of};
 ghost use Rattle.std.specs.Prelude.{IfOk, map, string_bytes};
+ghost use Rattle.task_runs.specs.TaskStores.{task_store_view};
 
 use crate::growing_sink::GrowingSink;
 use crate::growing_store::GrowingStore;
@@ -20,11 +20,11 @@ pub trait TaskProgram {
     fn run(
         alloc: Global,
         words: &[String],
-        store: &mut GrowingStore,
+        store: &mut GrowingStore<'_>,
         out: &mut GrowingSink,
         err: &mut GrowingSink,
     ) -> Result<Status, AllocError>
         ensures { IfOk result (ends (map string_bytes words.now)
-            (views_of (store_view store.old) (growing_view out.old) (growing_view err.old))
-            (views_of (store_view store.new) (growing_view out.new) (growing_view err.new))) };
+            (views_of (task_store_view store.old) (growing_view out.old) (growing_view err.old))
+            (views_of (task_store_view store.new) (growing_view out.new) (growing_view err.new))) };
 }

@@ -1,5 +1,4 @@
 ghost use Rattle.design_model.specs.OutOfMemory.{UnlessOutOfMemory};
-ghost use Rattle.outside_io.specs.MemStores.{files_of};
 ghost use Rattle.program_shell.specs.ExitCodes.{exit_number};
 ghost use Rattle.std.specs.Prelude.{◌≡◌, Err, IfErr, IfOk, Ok, map};
 ghost use Rattle.task_runs.specs.Packing.{packed_reply};
@@ -8,7 +7,7 @@ ghost use Rattle.task_runs.specs.TaskValues.{file_value, task_is_out_of_memory, 
 ghost use Rattle.task_runs.specs.NameLists.{ListsFiles};
 ghost use Rattle.task_runs.specs.Outcomes.{IsReturned, IsRunReply, ReturnsOutcome};
 ghost use Rattle.task_runs.specs.Replies.{EachChangeIsListed, reply_of};
-ghost use Rattle.task_runs.specs.TaskViews.{StoreHasTheFiles, store_of};
+ghost use Rattle.task_runs.specs.TaskStores.{StoreHasTheFiles, files_now};
 
 use crate::changed_files::changed_files;
 use crate::faults::fault_reply;
@@ -17,7 +16,7 @@ use crate::growing_store::GrowingStore;
 use crate::packing::pack_reply;
 use crate::program::TaskProgram;
 use crate::reading::read_task;
-use crate::task::{Task, TaskFile};
+use crate::task::Task;
 use crate::task_fault::TaskFault;
 use design_model::{Bytes, Memory};
 use program_shell::Status;
@@ -59,7 +58,7 @@ fn run_read<P: TaskProgram>(alloc: Global, task: &Task<'_>) -> Result<Bytes, Mem
     ensures { IfOk result (λ bytes. (reply : _) × IsRunReply P.ends (task_value task.now) reply
         × (bytes ≡ packed_reply reply)) }
 {
-    let mut store = store_of(alloc, task.files.as_slice())?;
+    let mut store = GrowingStore::lending(alloc, task.files.as_slice())?;
     let mut out = GrowingSink::new(alloc);
     let mut err = GrowingSink::new(alloc);
     let status = P::run(alloc, task.words.as_slice(), &mut store, &mut out, &mut err)?;
@@ -72,11 +71,11 @@ fn pack_run(
     alloc: Global,
     task: &Task<'_>,
     status: Status,
-    store: &GrowingStore,
+    store: &GrowingStore<'_>,
     out: &GrowingSink,
     err: &GrowingSink,
 ) -> Result<Bytes, Memory>
-    ensures { IfOk result (λ bytes. (names : _) × ListsFiles names (files_of store.now) × (bytes
+    ensures { IfOk result (λ bytes. (names : _) × ListsFiles names (files_now store.now) × (bytes
         ≡ packed_reply (reply_of (task_value task.now) status store.now names out.now err.now))) }
 {
     let files = changed_files(alloc, task.files.as_slice(), store, store.names())?;
@@ -95,17 +94,6 @@ fn outcome(status: Status) -> usize
     ensures { result ≡ exit_number status }
 {
     status as usize
-}
-
-/// Returns a store with these files.
-fn store_of(alloc: Global, files: &[TaskFile<'_>]) -> Result<GrowingStore, Memory>
-    ensures { IfOk result (λ store. store ≡ store_of (map file_value files.now)) }
-{
-    let mut store = GrowingStore::new(alloc);
-    for file in files {
-        store.put_file(file.name, file.content)?;
-    }
-    Ok(store)
 }
 
 /// Copies the bytes into the buffer if they fit, and returns their number.

@@ -1,16 +1,12 @@
-use Rattle.std.proofs.Common.{subst, sym}
-use Rattle.outside_io.specs.Files.{FileExists}
-use Rattle.outside_io.specs.MemStores.{MemStoreValue, visible_files}
-use Rattle.task_runs.proofs.RoomLemmas.{still_there}
-use Rattle.task_runs.proofs.RoomListLemmas.{lists_appended}
+use Rattle.std.proofs.Common.{refl}
+use Rattle.task_runs.proofs.WriteLemmas.{append_failed}
 use Rattle.task_runs.proofs.growing_store.GrowingStoreStore.append.Goals as goal
 
-pub append-requires-clause-there : goal.append-requires-clause-there
-append-requires-clause-there c =
-    subst (λ (s : MemStoreValue). FileExists (visible_files s) c.args.name.now) (sym c.self.view_is)
-    (still_there c.args.self.now c.make_room.new.self c.args.name.now c.make_room.ensures.files c.requires.there)
+pub append_kept-requires-clause-there : goal.append_kept-requires-clause-there
+append_kept-requires-clause-there c = c.requires.there _ refl
 
-pub invariant_of-self : goal.invariant_of-self
-invariant_of-self c = lists_appended _ c.self.inside.files c.append.new.self c.args.name.now c.args.bytes.now c.append.result
-    c.append.ensures.exact (subst (λ (s : MemStoreValue). FileExists (visible_files s) c.args.name.now) (sym c.self.view_is)
-    (still_there c.args.self.now c.make_room.new.self c.args.name.now c.make_room.ensures.files c.requires.there)) c.self.invariant
+pub returns-in-Err : goal.returns-in-Err
+returns-in-Err c = record {
+  appends = append_failed c.args.self.now c.append_kept.new.self c.failed.new.self c.args.name.now c.args.bytes.now c.failed.result
+      c.append_kept.ensures.log c.append_kept.ensures.others c.failed.ensures.files c.failed.ensures.cause;
+}

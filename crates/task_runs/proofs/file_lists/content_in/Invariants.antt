@@ -1,7 +1,7 @@
 use Rattle.std.proofs.Common.{◌≡◌, drop, map, option_map}
 use Rattle.task_runs.specs.TaskValues.{file_value}
-use Rattle.task_runs.specs.TaskViews.{content_after, content_in}
-use Rattle.task_runs.proofs.changed_files.content_in.Given as goal
+use Rattle.task_runs.specs.FileLists.{content_after, content_in}
+use Rattle.task_runs.proofs.file_lists.content_in.Given as goal
 
 -- what was found, and the files that are left
 abbrev pub invariant-loop-file : goal.invariant-loop-file
