@@ -1,10 +1,13 @@
 -- Worked requests, and mistakes of arguments: the first that isn't understood is named, with what is wrong with it.
-use Rattle.std.proofs.Common.{◌≡◌, ◌∷◌, [], ℕ, List, Some, None, Ok, true, false, codes, refl}
+use Rattle.std.proofs.Common.{◌≡◌, ◌∷◌, [], ℕ, List, IsSome, Some, None, Ok, true, false, codes, refl}
+use Rattle.command_words.specs.ValidNames.{AreFileNames}
+use Rattle.command_words.specs.declared.names.FileNames.{FileNames}
 use Rattle.program_texts.specs.MistakenWords.{mistaken}
 use Rattle.edited_designs.specs.DesignChanges.{bared, needled, pictured, tied}
+use Rattle.edited_designs.specs.EditArguments.{parsed_changes}
 use Rattle.design_commands.specs.Commands.{design_mistake, design_order, telling}
 use Rattle.design_commands.specs.EditRequests.{RequestedDesign, compare, edit, help, list, look, palette, pass, version}
-use Rattle.design_commands.specs.Requests.{parsed_design_words}
+use Rattle.design_commands.specs.Requests.{IsDesignEditRequest, parsed_design_words}
 use Rattle.design_commands.specs.Usage.{design_usage_text}
 
 -- arguments that request that
@@ -63,3 +66,8 @@ pub known_edit_mistakes : IsMistaken (codes "edit" ∷ []) (codes "edit") (codes
     × IsMistaken (codes "edit" ∷ codes "a" ∷ codes "b" ∷ codes "tie=21" ∷ []) (codes "tie=21") (codes "from 2 to 20")
     × IsMistaken (codes "edit" ∷ codes "a" ∷ codes "b" ∷ codes "tie" ∷ []) (codes "a") (codes "no format has this ending")
 known_edit_mistakes = ((refl, refl), (refl, refl), (refl, refl), (refl, refl), (refl, refl), (refl, refl), (refl, refl))
+
+-- the names of a request of edits are file names, and each edit is one
+pub known_edit_request : (names : FileNames) (words : List (List ℕ)) → IsDesignEditRequest names words
+    → AreFileNames names × IsSome (parsed_changes words)
+known_edit_request names words is = (is.named, is.parsed)

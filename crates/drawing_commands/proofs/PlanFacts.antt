@@ -1,19 +1,23 @@
 -- What the plans of the commands accept and refuse, and the orders of requests.
-use Rattle.std.proofs.Common.{[], Bool, codes, Err, false, List, map, None, refl, true, ℕ, ◌++◌, ◌∷◌, ◌≡◌, ◌≤◌}
+use Rattle.std.proofs.Common.{[], Bool, codes, Err, false, IsSome, length, List, map, None, refl, true, ℕ, ◌++◌, ◌∷◌, ◌≡◌, ◌≤◌}
 use Rattle.std.specs.Fmt.{digits}
 use Rattle.command_words.specs.ValidNames.{AreFileNames}
 use Rattle.command_words.specs.declared.names.FileNames.{FileNames}
 use Rattle.drawing_commands.proofs.Names.{bad_edit_is_out_of_memory, drawing_edit_read, drawing_outputs_of, drawing_plan_of, editing, free_made, free_order, free_read, freeing, look_order, look_read, looking, meet_read, meeting, near_file_order, near_read, nearing, snap_order, space_order, space_read, stitch_drawing_after, telling}
 use Rattle.drawing_commands.specs.DrawingEditing.{drawing_edit_order}
+use Rattle.drawing_commands.specs.DrawingEditWords.{parsed_drawing_edits}
 use Rattle.drawing_commands.specs.MeetFaults.{meet_fault_text}
+use Rattle.drawing_commands.specs.MeetOrders.{cross_order}
 use Rattle.drawing_commands.specs.Names.{named_words}
 use Rattle.drawing_commands.specs.NearFiles.{near_report}
-use Rattle.drawing_commands.specs.Requests.{HasFileNames, order_of_request}
+use Rattle.drawing_commands.specs.Requests.{HasFileNames, IsEditRequest, order_of_request}
 use Rattle.drawing_commands.specs.TextsRead.{text_read}
 use Rattle.drawing_commands.specs.Usage.{drawing_usage_text}
 use Rattle.drawing_commands.specs.VersionOne.{plan_if_joined}
+use Rattle.drawing_commands.specs.declared.meeting.MeetReport.TheVariants as report
 use Rattle.drawing_commands.specs.declared.requests.DrawingRequest.TheVariants as request
 use Rattle.drawing_comments.specs.declared.text_comments.TextComments.{TextComments}
+use Rattle.drawing_edits.specs.declared.drawing_edit.DrawingEdit.{DrawingEdit}
 use Rattle.drawing_edits.specs.declared.edit_fault.EditFault.TheVariants as fault
 use Rattle.drawing_text.specs.declared.draw_fault.DrawFault.{DrawFault}
 use Rattle.line_graph.specs.declared.draw_kind.DrawKind.TheVariants as kind
@@ -90,3 +94,19 @@ known_names names has = has
 pub known_words : (names : FileNames) (rest : List (List ℕ)) → ((named_words names rest).input ≡ names.input.now)
     × ((named_words names rest).output ≡ names.output.now) × ((named_words names rest).rest ≡ rest)
 known_words names rest = (refl, refl, refl)
+
+-- What each order asks for.
+pub known_order_parts : (edits : List DrawingEdit) (limits : SpacingLimits)
+    → ((look_order (codes "a") 7).file ≡ codes "a") × ((look_order (codes "a") 7).gap ≡ 7)
+    × ((snap_order 7 true (codes "a") (codes "b")).rule ≡ record { gap = 7; lists_crossings = false; keeps_copies = true })
+    × ((snap_order 7 true (codes "a") (codes "b")).report ≡ report.Snap)
+    × ((cross_order false (codes "a") (codes "b")).rule ≡ record { gap = 0; lists_crossings = true; keeps_copies = false })
+    × ((cross_order false (codes "a") (codes "b")).report ≡ report.Cross)
+    × ((space_order limits (codes "a") (codes "b")).limits ≡ limits)
+    × ((drawing_edit_order (codes "a") (codes "b") edits).edits ≡ edits)
+known_order_parts edits limits = (refl, refl, refl, refl, refl, refl, refl, refl)
+
+-- A request of edits has some, and each is one.
+pub known_edit_request : (names : FileNames) (edits : List (List ℕ)) → IsEditRequest names edits
+    → AreFileNames names × IsSome (parsed_drawing_edits edits) × (1 ≤ length edits)
+known_edit_request names edits is = (is.named, is.parsed, is.some)

@@ -1,6 +1,7 @@
 -- What no run does: each word of the outcomes of a run is refuted by a wrong view.
 use Rattle.std.proofs.Common.{◌≡◌, ◌++◌, ◌∷◌, [], ℕ, suc, List, Option, Some, None, inl, inr, refl, codes, ap, ◌∙◌, sym, subst, arith}
 use Rattle.program_shell.proofs.Names.{Blame, Rose, Files, SinkView, StoreView, Status, PutFailed, with_bytes_put, LacksInput, Plan, accepts, refuses, ChangesOnlyFiles, OutputValue, ProductValue, WroteAll, WroteUpTo, output_names, Program, IsDecided, IsDone, IsFault, IsMemory, IsPlannedOutcome, IsRefused, IsUsage, KeepsOtherFiles, RunEnds, IsFaultlessRun, Views, views_of, read_call, AllFilesHold, IsMissingInput, IsOutsideFailure, IsPrintFailure, IsReadFailure, IsWriteFailure, IsFailed, IsReportLost, IsUntouched}
+use Rattle.program_shell.specs.Plans.{Makes}
 use Rattle.program_shell.specs.declared.status.Status.TheVariants as status
 
 -- a sink that took these bytes
@@ -147,6 +148,17 @@ known_write_not_made text name before after is = is.made
 pub known_printed_by_write : (plan : Plan) (name : List ℕ) (before after : StoreView) (err : SinkView)
     → IsWriteFailure plan name (views_of before (took (1 ∷ [])) err) (views_of after (took []) err) → ⊥
 known_printed_by_write plan name before after err is = none_taken [] is.out
+
+-- What a failed write, and a failed print, leave of the product that the plan makes.
+pub known_write_failure : (plan : Plan) (name : List ℕ) (before after : Views) → IsWriteFailure plan name before after
+    → (product : ProductValue) × Makes plan before.store.files product
+    × WroteUpTo product.outputs name before.store after.store × (after.out ≡ before.out)
+known_write_failure plan name before after is = (is.product, is.made, is.wrote, is.out)
+
+pub known_print_failure : (plan : Plan) (before after : Views) → IsPrintFailure plan before after
+    → (product : ProductValue) × Makes plan before.store.files product
+    × WroteAll product.outputs before.store after.store × PutFailed before.out after.out product.report
+known_print_failure plan before after is = (is.product, is.made, is.wrote, is.broke)
 
 -- A print fails only of a report that the plan makes, with a fault, and after all is written.
 pub known_print_not_made : (text : List ℕ) (before after : Views) → IsPrintFailure (refuses text) before after → ⊥

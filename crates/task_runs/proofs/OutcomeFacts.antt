@@ -1,6 +1,8 @@
 -- Worked values of where a run begins, of replies and of what is returned, by hand.
 use Rattle.std.proofs.Common.{◌≡◌, ℕ, [], ◌∷◌, ◌++◌, List, None, Some, ◌⊎◌, true, arith, inl, inr, refl, subst, sym}
 use Rattle.program_shell.specs.declared.status.Status.TheVariants as status
+use Rattle.program_shell.specs.declared.status.Status.{Status}
+use Rattle.program_shell.specs.ExitCodes.{exit_number}
 use Rattle.program_shell.specs.RunViews.{Views}
 use Rattle.outside_io.specs.Files.{Files}
 use Rattle.task_runs.specs.declared.task_fault.TaskFault.TheVariants as fault
@@ -138,3 +140,8 @@ known_run reply (refused fault.CutOff cause is) = absurd (cc)
 known_run reply (refused fault.NotText cause is) = absurd (cc)
 known_run reply (refused fault.BytesLeft cause is) = absurd (cc)
 known_run reply (refused fault.Memory cause is) = inr is
+
+-- the run of a reply: its status, and the views after it, are what the program states
+pub known_run_parts : (Clause : RunClause) (given : TaskValue) (reply : ReplyValue) → IsRunReply Clause given reply
+    → (s : Status) × (after : Views) × Clause given.words (views_before given.files) after s × (reply.outcome ≡ exit_number s)
+known_run_parts Clause given reply is = (is.status, is.after, is.ends, is.outcome)
