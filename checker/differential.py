@@ -1,8 +1,9 @@
 #!/usr/bin/env python3
 """Compares the reference beside it with `stitch`: `python3 differential.py PROGRAM [CASES]`.
 
-Each case is a command over generated files, right or spoiled, with a seed of its own. Status, both outputs and all files
-must be equal. Of the usage text only the status is compared.
+Each case is a command over generated files, right or spoiled, with a seed of its own. Before them come files at the limits
+and beyond, and verdicts on spoiled routes. Status, both outputs and all files must be equal. Of the usage text only the
+status is compared.
 """
 import os
 import random
@@ -14,6 +15,8 @@ import compare
 import reference
 
 CASES = 3000
+# The spoiled routes that are judged, some for each way to spoil one.
+VERDICTS = 270
 ENDINGS = list(reference.LIMITS)
 
 
@@ -178,6 +181,65 @@ def case(seed):
     return [command, *words], files
 
 
+# ---- Cases at the limits, and verdicts.
+
+
+def star(lines, step, scale):
+    """The text of a drawing of that many lines from one point, to points of a grid."""
+    ends = "".join(f"line 0 0 {scale * (x % 40 + 1)} {scale * (x // 40)}\n" for x in range(lines))
+    return f"redwork 2\nstep {step}\ncolor 5\n{ends}".encode()
+
+
+def sewn_star(links):
+    """A stitch list that sews so many links from one point, each there and back."""
+    sewn = "".join(f"needle {x} 9\nneedle 0 0\n" for x in range(1, links + 1))
+    return f"stitch-list 1\nlabel []\nblock 5\nneedle 0 0\n{sewn}end\n".encode()
+
+
+def long_line(points):
+    """The text of a drawing of one line of that many points."""
+    listed = " ".join(f"{at % 200} {at // 200}" for at in range(points))
+    return f"redwork 2\ncolor 5\nline {listed}\n".encode()
+
+
+def many_blocks(blocks):
+    """The text of a drawing of that many blocks."""
+    return b"redwork 2\n" + b"color 5\nline 0 0 1 1\n" * blocks
+
+
+def cases_at_limits():
+    """The words and the files of cases at the limits and one beyond."""
+    longest = bytes(67108864)
+    for ending in ENDINGS:
+        yield ["show", f"a.{ending}"], {f"a.{ending}": longest + b"\0"}
+    for text in (star(1024, 25, 1), star(1025, 25, 1), star(1000, 1, 10), long_line(65536), long_line(65537), many_blocks(255), many_blocks(256)):
+        yield ["migrate", "a.rw", "b.rw"], {"a.rw": text}
+    yield ["migrate", "a.rw", "b.rw"], {"a.rw": longest + b"\0"}
+    for links in (1024, 1025):
+        yield ["trace", "a.lst", "b.rw"], {"a.lst": sewn_star(links)}
+
+
+def spoiled_route(program, seed):
+    """The words and the files of a verdict on a route that is spoiled in one place."""
+    rng = random.Random(seed)
+    ending = compare.ENDINGS[seed % len(compare.ENDINGS)]
+    names = ["a.rw", f"a.{ending}", "a.cert"]
+    drawing = compare.make_drawing(rng, rng.randint(1, 3))
+    left = run_program(program, ["route", *names], {names[0]: drawing})[3]
+    spoil = compare.SPOILS[seed % len(compare.SPOILS)]
+    return ["check", *names], dict(zip(names, spoil(rng, (drawing, left[names[1]], left[names[2]]), ending)))
+
+
+def all_cases(program, cases):
+    """The name, the words and the files of each case."""
+    for number, (words, files) in enumerate(cases_at_limits()):
+        yield f"{number} at the limits", words, files
+    for seed in range(VERDICTS):
+        yield f"{seed} of verdicts", *spoiled_route(program, seed)
+    for seed in range(cases):
+        yield str(seed), *case(seed)
+
+
 # ---- The comparison.
 
 
@@ -200,16 +262,15 @@ def run_program(program, words, files):
 def main(program, cases=CASES):
     """Compares all cases, and prints each that differs."""
     program, differ, kinds = os.path.abspath(program), 0, {}
-    for seed in range(int(cases)):
-        words, files = case(seed)
+    for name, words, files in all_cases(program, int(cases)):
         wanted, found = reference.run(words, files), run_program(program, words, files)
         kinds[words[0], wanted[0]] = kinds.get((words[0], wanted[0]), 0) + 1
         if wanted != found:
             differ += 1
             if differ <= 20:
-                print(f"differential: case {seed}: {words}\n  reference {str(wanted)[:500]}\n  program   {str(found)[:500]}",
+                print(f"differential: case {name}: {words}\n  reference {str(wanted)[:500]}\n  program   {str(found)[:500]}",
                       file=sys.stderr)
-    print(f"differential: {cases} cases, {differ} differ: " + ", ".join(
+    print(f"differential: {sum(kinds.values())} cases, {differ} differ: " + ", ".join(
         f"{command} {status}: {count}" for (command, status), count in sorted(kinds.items())))
     return differ > 0
 
