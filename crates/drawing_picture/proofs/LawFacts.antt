@@ -7,7 +7,7 @@ use Rattle.drawing_picture.specs.BandLaws.{ShowsLoad}
 use Rattle.drawing_picture.specs.Bands.{bands_on}
 use Rattle.drawing_picture.specs.CheckedProofs.{IsProofResult}
 use Rattle.drawing_picture.specs.DrawingPictures.{IsDrawingPicture, picture_of_pieces}
-use Rattle.drawing_picture.specs.DrawnLaws.{PathsShowSegments}
+use Rattle.drawing_picture.specs.DrawnLaws.{PathsShowSegments, segments_through}
 use Rattle.drawing_picture.specs.LabelLaws.{AreApart, LabelsStandApart, SidesHaveLabels}
 use Rattle.drawing_picture.specs.LabelOrders.{PlacedLabel, labels_of_side, placed_labels}
 use Rattle.drawing_picture.specs.LinePaths.{path_text}
@@ -33,6 +33,10 @@ use Rattle.route_verdict.specs.SewingSteps.{AllDrawn}
 pub known_segments : PathsShowSegments → path_text (at 0 ∷ at 20 ∷ at 7 ∷ [])
     ≡ move_text (at 0) ++ (straight_text (at 20) ++ (straight_text (at 7) ++ []))
 known_segments law = law (at 0) (at 20 ∷ at 7 ∷ [])
+
+pub known_each_segment : segments_through (at 0) (at 20 ∷ at 7 ∷ [])
+    ≡ record { from = at 0; to = at 20 } ∷ record { from = at 20; to = at 7 } ∷ []
+known_each_segment = refl
 
 abbrev label : Bool → ℕ → ℕ → Label
 label is_piece number x = record { is_piece = is_piece; number = number; at = record { x = x; y = 60010 } }
