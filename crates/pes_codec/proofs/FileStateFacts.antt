@@ -1,5 +1,5 @@
 -- Worked states of a reader of PEC and PES files, at each of its stages.
-use Rattle.std.proofs.Common.{◌≡◌, ◌++◌, [], ◌∷◌, Err, map, codes, refl}
+use Rattle.std.proofs.Common.{◌≡◌, ◌++◌, true, false, [], ◌∷◌, Err, map, codes, refl}
 use Rattle.format_traits.specs.DecoderStates.{DecodedSoFar, DecoderState}
 use Rattle.format_traits.specs.declared.fault.ReadFault.TheVariants as fault
 use Rattle.pes_codec.specs.FileStates.{file_so_far_at, file_start_state, file_state_at, file_state_before_block}
@@ -51,3 +51,9 @@ known_start = (refl, refl, refl, refl)
 pub known_front : (front_fault (front_layout_of Pes) 5 (codes "#PES00") ≡ fault.Short 11)
     × (front_fault (front_layout_of Pes) 5 (codes "#PEC00") ≡ fault.Signature 5)
 known_front = (refl, refl)
+
+-- the front of a PEC file has 8 bytes, and its block follows; that of a PES file has 12, of which the last four are the offset
+pub known_layouts : ((front_layout_of Pec).length ≡ 8) × ((front_layout_of Pes).length ≡ 12)
+    × ((front_layout_of Pec).known (codes "#PEC0001") ≡ true) × ((front_layout_of Pes).known (codes "#PEC0001") ≡ false)
+    × ((front_layout_of Pec).block [] ≡ 8) × ((front_layout_of Pes).block (codes "#PES0001" ++ 22 ∷ 1 ∷ 0 ∷ 0 ∷ []) ≡ 278)
+known_layouts = (refl, refl, refl, refl, refl, refl)
