@@ -22,6 +22,13 @@ known_last_thread restored = other (restored.threads 1 (omega arith))
     other : Differ 6 5
     other is = omega (arith, is)
 
+-- the first block has the thread 9 and no other
+pub known_first_thread : RestoresDesign (design [] (9 ∷ 5 ∷ [])) (loaded [] (8 ∷ 5 ∷ [])) → ⊥
+known_first_thread restored = other (restored.threads 0 (omega arith))
+  where
+    other : Differ 8 9
+    other is = omega (arith, is)
+
 pub known_other_label : RestoresDesign (design (codes "a") []) (loaded [] []) → ⊥
 known_other_label restored = other restored.label
   where
