@@ -53,6 +53,10 @@ pub known_none : RoundsKeepLinesNear → (lists : Bool) (gap : ℕ) (starts ends
     → lines_as_worked (settled_lines lists gap (unworked [] starts ends)).lines ≡ []
 known_none law lists gap starts ends = law lists gap [] starts ends
 
+pub known_near_rounds : RoundsKeepLinesNear → (lists : Bool) (gap : ℕ) (lines : List LineValue) (starts ends : List Spot)
+    → LinesStayNear gap lines (lines_as_worked (settled_lines lists gap (unworked lines starts ends)).lines)
+known_near_rounds law = law
+
 pub known_near_lines : (line after : LineValue) (more : List LineValue) → LinesStayNear 3 (line ∷ []) (after ∷ more)
     → (after.block ≡ line.block) × StaysNear 7 4 None line.points after.points × (more ≡ [])
 known_near_lines line after more near = near
