@@ -1,6 +1,6 @@
 -- What no run does: each word of the outcomes of a run is refuted by a wrong view.
 use Rattle.std.proofs.Common.{◌≡◌, ◌++◌, ◌∷◌, [], ℕ, suc, List, Option, Some, None, inl, inr, refl, codes, ap, ◌∙◌, sym, subst, arith}
-use Rattle.program_shell.proofs.Names.{Blame, Rose, Files, SinkView, StoreView, Status, PutFailed, with_bytes_put, LacksInput, Plan, accepts, refuses, ChangesOnlyFiles, OutputValue, ProductValue, WroteAll, WroteUpTo, output_names, Program, IsDecided, IsDone, IsFault, IsMemory, IsPlannedOutcome, IsRefused, IsUsage, KeepsOtherFiles, RunEnds, IsFaultlessRun, Views, views_of, read_call, AllFilesHold, IsMissingInput, IsOutsideFailure, IsPrintFailure, IsReadFailure, IsWriteFailure, IsFailed, IsReportLost, IsUntouched}
+use Rattle.program_shell.proofs.Names.{Blame, Rose, Files, SinkView, StoreView, Status, PutFailed, with_bytes_put, LacksInput, Plan, accepts, refuses, ChangesOnlyFiles, IsNoneOf, OutputValue, ProductValue, WroteAll, WroteUpTo, output_names, Program, IsDecided, IsDone, IsFault, IsMemory, IsPlannedOutcome, IsRefused, IsUsage, KeepsOtherFiles, RunEnds, IsFaultlessRun, Views, views_of, read_call, AllFilesHold, IsMissingInput, IsOutsideFailure, IsPrintFailure, IsReadFailure, IsWriteFailure, IsFailed, IsReportLost, IsUntouched}
 use Rattle.program_shell.specs.Plans.{Makes}
 use Rattle.program_shell.specs.declared.status.Status.TheVariants as status
 
@@ -239,6 +239,17 @@ pub known_changed_for_nothing : (plan : Plan) (s : StoreView) (out out' err err'
     → KeepsOtherFiles (one_plan plan) None (views_of (record s { files = None }) out err)
     (views_of (record s { files = Some no_file }) out' err') → ⊥
 known_changed_for_nothing plan s out out' err err' is = none_is_some no_file (sym is)
+
+-- With a request, each file that its order doesn't write is as before, and no file comes into view.
+pub known_other_files : (program : Program ℕ) (order : ℕ) (before after : Views) (old new : Files)
+    → KeepsOtherFiles program (Some order) (record before { store = storing old 0 }) (record after { store = storing new 0 })
+    → (name : List ℕ) → IsNoneOf (program.outputs order) name → new name ≡ old name
+known_other_files program order before after old new keeps = keeps
+
+pub known_shown_for_nothing : (plan : Plan) (s : StoreView) (out out' err err' : SinkView)
+    → KeepsOtherFiles (one_plan plan) (Some 0) (views_of (record s { files = None }) out err)
+    (views_of (record s { files = Some no_file }) out' err') → ⊥
+known_shown_for_nothing plan s out out' err err' is = is
 
 -- A run without faults has none in the store and in both streams.
 pub known_fault_in_store : (out err : SinkView)
