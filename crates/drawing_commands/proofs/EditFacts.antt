@@ -15,7 +15,9 @@ pub known_parsed_drawing_edits : (parsed_drawing_edits (codes "shift=-5,70" ∷ 
     × (parsed_drawing_edits (codes "order=12,1" ∷ codes "start=-5,70" ∷ codes "end=30000,-30000" ∷ [])
     ≡ Some (edit.Order 12 1 ∷ edit.Start (record { x = negsuc 4; y = pos 70 })
     ∷ edit.End (record { x = pos 30000; y = negsuc 29999 }) ∷ []))
-known_parsed_drawing_edits = (refl, refl)
+    × (parsed_drawing_edits (codes "order=300,1" ∷ codes "order=1024,1024" ∷ [])
+    ≡ Some (edit.Order 300 1 ∷ edit.Order 1024 1024 ∷ []))
+known_parsed_drawing_edits = (refl, refl, refl)
 
 -- no edits of a drawing
 abbrev IsNoEdit : List ℕ → Type 0
@@ -26,8 +28,8 @@ pub known_no_edits : IsNoEdit (codes "step=0") × IsNoEdit (codes "step=2048") �
 known_no_edits = (refl, refl, refl, refl, refl, refl, refl)
 
 pub known_no_orders : IsNoEdit (codes "order=0,1") × IsNoEdit (codes "order=1,0") × IsNoEdit (codes "order=1")
-    × IsNoEdit (codes "order=1,2,3") × IsNoEdit (codes "order=1,1025")
-known_no_orders = (refl, refl, refl, refl, refl)
+    × IsNoEdit (codes "order=1,2,3") × IsNoEdit (codes "order=1,1025") × IsNoEdit (codes "order=1025,1")
+known_no_orders = (refl, refl, refl, refl, refl, refl)
 
 pub known_no_points : IsNoEdit (codes "start=30001,0") × IsNoEdit (codes "start=5") × IsNoEdit (codes "end=,3")
     × IsNoEdit (codes "end") × IsNoEdit (codes "ende=1,2")
