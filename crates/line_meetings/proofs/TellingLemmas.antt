@@ -39,18 +39,19 @@ pub told_all : (f : LineSegment → List Meeting) (left : List LineSegment) (fou
 told_all f left found all before none tells rest =
     ap (λ (parts : List LineSegment). told (found ++ (flat_map f parts ++ rest))) (sym none) ∙ tells rest
 
--- the meetings of all kinds, one kind after another, where each tree has the parts that it was made of
-pub told_together : (gap : ℕ) (near tree points segments : List LineSegment) (again none close beside_too touched found : List Meeting)
-    → near ≡ points → tree ≡ segments → none ≡ [] → TellsUpTo (flat_map (close_to gap near tree) points) none close
-    → TellsUpTo (flat_map (beside gap tree) points) close beside_too
-    → TellsUpTo (flat_map (touches tree) segments) beside_too touched → found ≡ touched ++ again
-    → told found ≡ told (meetings_among gap points segments again)
-told_together gap near tree points segments again none close beside_too touched found of_points of_segments empty one two three last =
+-- the meetings of all kinds, one kind after another
+pub told_together : (gap : ℕ) (near tree first second third : List LineSegment) (again none close beside_too touched found : List Meeting)
+    → first ≡ near → second ≡ near → third ≡ tree → none ≡ [] → TellsUpTo (flat_map (close_to gap near tree) first) none close
+    → TellsUpTo (flat_map (beside gap tree) second) close beside_too
+    → TellsUpTo (flat_map (touches tree) third) beside_too touched → found ≡ touched ++ again
+    → told found ≡ told (meetings_among gap near tree again)
+told_together gap near tree first second third again none close beside_too touched found
+    of_first of_second of_third empty one two three last =
     ap told last ∙ three again
-    ∙ two (flat_map (touches tree) segments ++ again)
-    ∙ one (flat_map (beside gap tree) points ++ (flat_map (touches tree) segments ++ again))
-    ∙ ap (λ (some : List LineSegment). told (none ++ (flat_map (close_to gap some tree) points
-    ++ (flat_map (beside gap tree) points ++ (flat_map (touches tree) segments ++ again))))) of_points
-    ∙ ap (λ (some : List LineSegment). told (none ++ (flat_map (close_to gap points some) points
-    ++ (flat_map (beside gap some) points ++ (flat_map (touches some) segments ++ again))))) of_segments
-    ∙ ap (λ (some : List Meeting). told (some ++ meetings_among gap points segments again)) empty
+    ∙ ap (λ (some : List LineSegment). told (beside_too ++ (flat_map (touches tree) some ++ again))) of_third
+    ∙ two (flat_map (touches tree) tree ++ again)
+    ∙ ap (λ (some : List LineSegment). told (close ++ (flat_map (beside gap tree) some ++ (flat_map (touches tree) tree ++ again)))) of_second
+    ∙ one (flat_map (beside gap tree) near ++ (flat_map (touches tree) tree ++ again))
+    ∙ ap (λ (some : List LineSegment). told (none ++ (flat_map (close_to gap near tree) some
+    ++ (flat_map (beside gap tree) near ++ (flat_map (touches tree) tree ++ again))))) of_first
+    ∙ ap (λ (some : List Meeting). told (some ++ meetings_among gap near tree again)) empty

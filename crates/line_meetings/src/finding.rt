@@ -1,13 +1,14 @@
 ghost use Rattle.line_meetings.specs.declared.meeting.TheConstants.{MAX_MEETINGS};
 ghost use Rattle.line_meetings.specs.Joints.{are_joined, steps_around_of};
 ghost use Rattle.line_meetings.specs.KnownSteps.{AreKnown, is_same_point_key};
-ghost use Rattle.line_meetings.specs.Meetings.{beside, close_points, close_to, meetings_among, meetings_of_lines, point_beside as point_beside_of, touch as touch_of, touches};
+ghost use Rattle.line_meetings.specs.Meetings.{beside, close_points, close_to, meetings_among, meetings_of_lines, point_beside as point_beside_of, repeats_after, touch as touch_of, touches};
+ghost use Rattle.line_meetings.specs.Parts.{all_points, all_segments, ends_first, firsts_of};
 ghost use Rattle.line_meetings.specs.Telling.{TellsUpTo, told};
 ghost use Rattle.std.specs.HashMap.{get};
 ghost use Rattle.std.specs.List.{flat_map};
-ghost use Rattle.std.specs.Prelude.{◌≡◌, ◌++◌, IfOk, OnOk, filter, length, map, nat_lt, not};
+ghost use Rattle.std.specs.Prelude.{◌≡◌, ◌++◌, [], IfOk, OnOk, filter, length, map, nat_lt, not};
 
-use crate::copies::without_copies;
+use crate::copies::{Firsts, without_copies};
 use crate::joints::{Joint, do_meet, steps_of};
 use crate::known_steps::{KnownSteps, keep_steps, known_to_meet};
 use crate::meeting::{MAX_MEETINGS, Meeting, Meetings};
@@ -26,18 +27,31 @@ use std::collections::HashMap;
 pub fn find_meetings(alloc: Global, lines: &[Line], gap: u16) -> Result<Meetings, Memory>
     ensures { IfOk result (λ meetings. meetings ≡ meetings_of_lines gap lines.now) }
 {
-    let points = points(alloc, lines)?;
-    let points = without_copies(alloc, points.as_slice())?;
-    let segments = segments(alloc, lines)?;
-    let segments = without_copies(alloc, segments.as_slice())?;
-    let found = found_among(
-        alloc,
-        gap,
-        points.kept.as_slice(),
-        segments.kept.as_slice(),
-        segments.again.as_slice(),
-    )?;
+    let near = point_tree(alloc, lines)?;
+    let Firsts { kept, again } = first_segments(alloc, lines)?;
+    let tree = PartTree::of(alloc, kept)?;
+    let found = found_among(alloc, gap, &near, &tree, again.as_slice())?;
     Ok(those_told(found))
+}
+
+/// Returns the points of lines, without those that copy an earlier one.
+fn point_tree(alloc: Global, lines: &[Line]) -> Result<PartTree, Memory>
+    ensures { IfOk result (λ tree. tree ≡ firsts_of (ends_first (all_points lines.now))) }
+{
+    let all = points(alloc, lines)?;
+    let Firsts { kept, .. } = without_copies(alloc, all.as_slice())?;
+    let tree = PartTree::of(alloc, kept)?;
+    Ok(tree)
+}
+
+/// Returns the segments of lines, without those that copy an earlier one, and a meeting for each copy.
+fn first_segments(alloc: Global, lines: &[Line]) -> Result<Firsts, Memory>
+    ensures kept { IfOk result (λ sorted. sorted.kept.items ≡ firsts_of (all_segments lines.now)) }
+    ensures again { IfOk result (λ sorted. sorted.again ≡ repeats_after [] (all_segments lines.now)) }
+{
+    let all = segments(alloc, lines)?;
+    let firsts = without_copies(alloc, all.as_slice())?;
+    Ok(firsts)
 }
 
 /// Returns the meetings that are told.
@@ -54,19 +68,16 @@ fn those_told(found: Meetings) -> Meetings
 fn found_among(
     alloc: Global,
     gap: u16,
-    points: &[LineSegment],
-    segments: &[LineSegment],
+    near: &PartTree,
+    tree: &PartTree,
     again: &[Meeting],
 ) -> Result<Meetings, Memory>
-    ensures { IfOk result (λ found. told found
-        ≡ told (meetings_among gap points.now segments.now again.now)) }
+    ensures { IfOk result (λ found. told found ≡ told (meetings_among gap near.now tree.now again.now)) }
 {
-    let near = PartTree::of(alloc, points)?;
-    let tree = PartTree::of(alloc, segments)?;
     let mut found = Meetings::new(alloc);
-    put_all_close(alloc, gap, &near, &tree, points, &mut found)?;
-    put_all_beside(alloc, gap, &tree, points, &mut found)?;
-    put_all_touches(alloc, &tree, segments, &mut found)?;
+    put_all_close(alloc, gap, near, tree, near.parts(), &mut found)?;
+    put_all_beside(alloc, gap, tree, near.parts(), &mut found)?;
+    put_all_touches(alloc, tree, tree.parts(), &mut found)?;
     found.append(again)?;
     Ok(found)
 }

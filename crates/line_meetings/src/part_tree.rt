@@ -33,14 +33,19 @@ impl Model for PartTree {
 
 impl PartTree {
     /// Returns the tree of some parts.
-    pub fn of(alloc: Global, some: &[LineSegment]) -> Result<PartTree, Memory>
-        ensures { IfOk result (λ tree. tree ≡ some.now) }
+    pub fn of(alloc: Global, parts: Vec<LineSegment>) -> Result<PartTree, Memory>
+        ensures { IfOk result (λ tree. tree ≡ parts.items) }
     {
-        let ordered = in_near_order(alloc, some)?;
+        let ordered = in_near_order(alloc, parts.as_slice())?;
         let regions = regions(alloc, ordered.as_slice())?;
-        let mut parts = Vec::new(alloc);
-        parts.extend_from_slice(some)?;
         Ok(PartTree { parts, regions })
+    }
+
+    /// Returns the parts, in their order.
+    pub fn parts(&self) -> &[LineSegment]
+        ensures { result.now ≡ self.now }
+    {
+        self.parts.as_slice()
     }
 
     /// Returns the parts that a question is about, in their order.

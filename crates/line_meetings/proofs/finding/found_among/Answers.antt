@@ -3,5 +3,6 @@ use Rattle.line_meetings.proofs.finding.found_among.Goals as goal
 
 pub returns : goal.returns
 returns c =
-    told_together c.args.gap _ _ _ _ _ _ _ _ _ _ c.in_ok-near.ensures c.in_ok-tree.ensures c.new-found.ensures c.in_ok-put_all_close.ensures
-    c.in_ok-put_all_beside.ensures c.in_ok-put_all_touches.ensures c.in_ok-append.ensures.ok
+    told_together c.args.gap c.args.near.now c.args.tree.now _ _ _ _ _ _ _ _ _ c.parts.ensures c.parts-2.ensures c.parts-3.ensures
+    c.new-found.ensures c.in_ok-put_all_close.ensures c.in_ok-put_all_beside.ensures c.in_ok-put_all_touches.ensures
+    c.in_ok-append.ensures.ok
