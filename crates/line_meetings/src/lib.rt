@@ -12,6 +12,7 @@
 //! ```
 #![tactic(auto)]
 
+mod area;
 mod bounds;
 mod copies;
 mod finding;

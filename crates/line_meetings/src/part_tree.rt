@@ -3,19 +3,19 @@ ghost use Rattle.line_meetings.specs.Queries.{answers_query};
 ghost use Rattle.std.specs.List.{flat_map};
 ghost use Rattle.std.specs.Prelude.{◌≡◌, ◌++◌, IfOk, OnOk, drop, filter, take};
 
+use crate::area::{Area, areas, matching};
 use crate::part_order::in_near_order;
 use crate::query::Query;
-use crate::region::{Region, matching, regions};
 use design_model::Memory;
 use drawing_review::LineSegment;
 use std::alloc::Global;
 use std::marker::Model;
 
-/// Parts, and regions of them in which those are found that a question is about.
+/// Parts, and areas of them in which those are found that a question is about.
 #[derive(Drop)]
 pub struct PartTree {
     parts: Vec<LineSegment>,
-    regions: Vec<Region>,
+    areas: Vec<Area>,
 }
 
 impl Model for PartTree {
@@ -28,7 +28,7 @@ impl Model for PartTree {
 
     ghost view = { λ t. t.parts.items };
 
-    ghost invariant = { λ t. AreIndexed t.parts.items (flat_map (λ r. r) t.regions.items) };
+    ghost invariant = { λ t. AreIndexed t.parts.items (flat_map (λ a. a) t.areas.items) };
 }
 
 impl PartTree {
@@ -37,8 +37,8 @@ impl PartTree {
         ensures { IfOk result (λ tree. tree ≡ parts.items) }
     {
         let ordered = in_near_order(alloc, parts.as_slice())?;
-        let regions = regions(alloc, ordered.as_slice())?;
-        Ok(PartTree { parts, regions })
+        let areas = areas(alloc, ordered.as_slice())?;
+        Ok(PartTree { parts, areas })
     }
 
     /// Returns the parts, in their order.
@@ -52,7 +52,7 @@ impl PartTree {
     pub fn matches(&self, alloc: Global, query: Query) -> Result<Vec<LineSegment>, Memory>
         ensures { IfOk result (λ found. found.items ≡ filter (answers_query query) self.now) }
     {
-        let mut indexes = matching(alloc, self.regions.as_slice(), &query)?;
+        let mut indexes = matching(alloc, self.areas.as_slice(), &query)?;
         indexes.sort_unstable();
         let found = parts_with(alloc, self.parts.as_slice(), indexes.as_slice())?;
         Ok(found)

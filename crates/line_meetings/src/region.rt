@@ -16,7 +16,7 @@ use std::marker::Model;
 const GROUP: usize = 16;
 
 /// The number of parts in a region.
-const REGION: usize = 512;
+const REGION: usize = 256;
 
 /// Groups that follow each other, and bounds that have their parts inside.
 #[derive(Drop)]
@@ -56,7 +56,7 @@ impl Region {
     }
 
     /// Adds the indexes of the parts of the region that a question is about. The bounds are those of the question.
-    fn put_matches(
+    pub fn put_matches(
         &self,
         query: &Query,
         bounds: &Bounds,
@@ -109,16 +109,4 @@ fn put_matches_in(
         group.put_matches(query, bounds, found)?;
     }
     Ok(())
-}
-
-/// Returns the indexes of the parts of regions that a question is about.
-pub fn matching(alloc: Global, regions: &[Region], query: &Query) -> Result<Vec<usize>, Memory>
-    ensures { IfOk result (λ found. found.items ≡ matching_indexes query.now (flat_map (λ r. r) regions.now)) }
-{
-    let bounds = query.bounds();
-    let mut found = Vec::new(alloc);
-    for region in regions {
-        region.put_matches(query, &bounds, &mut found)?;
-    }
-    Ok(found)
 }

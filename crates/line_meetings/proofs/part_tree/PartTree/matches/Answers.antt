@@ -11,9 +11,9 @@ returns c =
     let parts = c.self.inside.parts.items in
     let sorted = c.sort_unstable.new.self.items in
     c.in_ok-found.ensures ∙ ap₂ parts_at c.as_slice-2.ensures.value c.as_slice-3.ensures.value
-    ∙ matches_in_order c.args.query parts (flat_map (λ r. r) c.self.inside.regions.items) c.in_ok-indexes.indexes.items sorted
+    ∙ matches_in_order c.args.query parts (flat_map (λ a. a) c.self.inside.areas.items) c.in_ok-indexes.indexes.items sorted
     c.self.invariant
     (c.in_ok-indexes.ensures
-    ∙ ap (λ (regions : List (List IndexedPart)). matching_indexes c.args.query (flat_map (λ r. r) regions)) c.as_slice.ensures.value)
+    ∙ ap (λ (areas : List (List IndexedPart)). matching_indexes c.args.query (flat_map (λ a. a) areas)) c.as_slice.ensures.value)
     c.sort_unstable.ensures.permutation (IsNonDecreasingBy-from_sort (λ (n : ℕ). n) sorted c.sort_unstable.ensures.sorted)
     ∙ ap (filter (answers_query c.args.query)) c.self.view_is

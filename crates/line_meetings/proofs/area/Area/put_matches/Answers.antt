@@ -1,0 +1,6 @@
+use Rattle.std.proofs.Common.{◌∙◌, sym}
+use Rattle.line_meetings.proofs.BoundsLemmas.{none_found}
+use Rattle.line_meetings.proofs.area.Area.put_matches.Goals as goal
+
+pub returns-then-is_apart : goal.returns-then-is_apart
+returns-then-is_apart c = none_found _ _ _ _ _ c.requires c.bounds.ensures (sym c.is_apart.ensures ∙ c.if-is_apart.true)
