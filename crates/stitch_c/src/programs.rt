@@ -1,3 +1,5 @@
+ghost use Rattle.std.specs.Prelude.{refl};
+
 use design_commands::run_design;
 use picture_commands::run_picture;
 use program_shell::Status;
@@ -22,6 +24,8 @@ impl TaskProgram for StitchProgram {
     ) -> Result<Status, AllocError> {
         run_stitch(alloc, words, store, out, err)
     }
+
+    ghost keeps = { λ words before after runs. (runs.ends.refused refl).untouched.store };
 }
 
 /// `stitch_drawing`.
@@ -41,6 +45,8 @@ impl TaskProgram for DrawingProgram {
     ) -> Result<Status, AllocError> {
         Ok(drawing_commands::run(alloc, words, store, out, err))
     }
+
+    ghost keeps = { λ words before after runs. (runs.refused refl).untouched.store };
 }
 
 /// `stitch_picture`.
@@ -60,6 +66,8 @@ impl TaskProgram for PictureProgram {
     ) -> Result<Status, AllocError> {
         run_picture(alloc, words, store, out, err)
     }
+
+    ghost keeps = { λ words before after runs. (runs.refused refl).untouched.store };
 }
 
 /// `stitch_design`.
@@ -79,4 +87,6 @@ impl TaskProgram for DesignProgram {
     ) -> Result<Status, AllocError> {
         run_design(alloc, words, store, out, err)
     }
+
+    ghost keeps = { λ words before after runs. (runs.refused refl).untouched.store };
 }

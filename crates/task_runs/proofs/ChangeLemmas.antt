@@ -1,5 +1,5 @@
 -- Each file that a run left and that wasn't given so is among those of a list of all names.
-use Rattle.std.proofs.Common.{refl, ◌≡◌, ℕ, Bool, true, false, [], ◌∷◌, ◌++◌, List, Some}
+use Rattle.std.proofs.Common.{refl, ◌≡◌, ℕ, Bool, true, false, [], ◌∷◌, ◌++◌, List, Option, Some, None}
 use Rattle.std.proofs.lemmas.List.{append_assoc}
 use Rattle.std.proofs.lemmas.Slice.Eq.{bytes_eq-Decides}
 use Rattle.std.specs.Str.{bytes_eq}
@@ -34,3 +34,20 @@ each_change given left names name content lists is new = by_test (is_listed name
         → IsAmong (record { name = name; content = content }) (changed_files given left names)
     by_test true has = is_changed given left names name content has is new
     by_test false lacks = let none = lists name lacks in absurd (cc)
+
+-- a file that is as it was given isn't changed
+same_file : (given : Option (List ℕ)) (name : List ℕ) → changed_file given name given ≡ []
+same_file None name = refl
+same_file (Some content) name = rw ((bytes_eq-Decides content content).1 refl) refl
+
+-- files that are as they were given aren't changed
+pub none_changed : (given : List FileValue) (left : Files) (names : List (List ℕ)) → Some left ≡ Some (content_in given)
+    → changed_files given left names ≡ []
+none_changed given left names same = of_names names
+  where
+    same_files : (f g : Files) → Some f ≡ Some g → f ≡ g
+    same_files f g is = cc
+
+    of_names : (names : List (List ℕ)) → changed_files given left names ≡ []
+    of_names [] = refl
+    of_names (name ∷ rest) = rw (same_files left (content_in given) same, same_file (content_in given name) name, of_names rest) refl

@@ -10,6 +10,9 @@ use std::alloc::{AllocError, Global};
 
 /// A program, as a task runs it.
 pub trait TaskProgram {
+    ghost use Rattle.program_shell.specs.RunViews.{Views};
+    ghost use Rattle.program_shell.specs.declared.status.Status.TheVariants as status;
+    ghost use Rattle.std.specs.Prelude.{◌≡◌, List, ℕ};
     ghost use Rattle.task_runs.specs.Outcomes.{RunClause};
 
     /// What the program states of its runs.
@@ -27,4 +30,8 @@ pub trait TaskProgram {
         ensures { IfOk result (ends (map string_bytes words.now)
             (views_of (task_store_view store.old) (growing_view out.old) (growing_view err.old))
             (views_of (task_store_view store.new) (growing_view out.new) (growing_view err.new))) };
+
+    /// A refused run leaves the files as they were.
+    ghost keeps: { (words : List (List ℕ)) (before after : Views) → ends words before after status.Refused
+        → after.store ≡ before.store };
 }

@@ -1,13 +1,15 @@
 ghost use Rattle.design_model.specs.OutOfMemory.{UnlessOutOfMemory};
 ghost use Rattle.program_shell.specs.ExitCodes.{exit_number};
-ghost use Rattle.std.specs.Prelude.{◌≡◌, Err, IfErr, IfOk, Ok, map};
+ghost use Rattle.program_shell.specs.declared.status.Status.TheVariants.{Refused};
+ghost use Rattle.std.specs.Prelude.{◌≡◌, Err, IfErr, IfOk, Ok, Some, map};
 ghost use Rattle.task_runs.specs.Packing.{packed_reply};
 ghost use Rattle.task_runs.specs.TaskReading.{task_of};
 ghost use Rattle.task_runs.specs.TaskValues.{file_value, task_is_out_of_memory, task_value};
 ghost use Rattle.task_runs.specs.NameLists.{ListsFiles};
 ghost use Rattle.task_runs.specs.Outcomes.{IsReturned, IsRunReply, ReturnsOutcome};
-ghost use Rattle.task_runs.specs.Replies.{EachChangeIsListed, reply_of};
-ghost use Rattle.task_runs.specs.TaskStores.{StoreHasTheFiles, files_now};
+ghost use Rattle.task_runs.specs.FileLists.{content_in};
+ghost use Rattle.task_runs.specs.Replies.{EachChangeIsListed, changed_files, reply_of};
+ghost use Rattle.task_runs.specs.TaskStores.{StoreHasTheFiles, files_now, task_store_view};
 
 use crate::changed_files::changed_files;
 use crate::faults::fault_reply;
@@ -16,9 +18,9 @@ use crate::growing_store::GrowingStore;
 use crate::packing::pack_reply;
 use crate::program::TaskProgram;
 use crate::reading::read_task;
-use crate::task::Task;
+use crate::task::{Task, TaskFile};
 use crate::task_fault::TaskFault;
-use design_model::{Bytes, Memory};
+use design_model::{Bytes, Items, Memory};
 use program_shell::Status;
 use std::alloc::Global;
 
@@ -66,7 +68,7 @@ fn run_read<P: TaskProgram>(alloc: Global, task: &Task<'_>) -> Result<Bytes, Mem
     Ok(reply)
 }
 
-/// Packs the reply of a run that ended with this status, and left this store and these sinks.
+/// Packs the reply of a run that ended with this status, and left this store and these sinks. A refused run changed no file.
 fn pack_run(
     alloc: Global,
     task: &Task<'_>,
@@ -75,10 +77,11 @@ fn pack_run(
     out: &GrowingSink,
     err: &GrowingSink,
 ) -> Result<Bytes, Memory>
+    requires { status ≡ Refused → (task_store_view store.now).files ≡ Some (content_in (task_value task.now).files) }
     ensures { IfOk result (λ bytes. (names : _) × ListsFiles names (files_now store.now) × (bytes
         ≡ packed_reply (reply_of (task_value task.now) status store.now names out.now err.now))) }
 {
-    let files = changed_files(alloc, task.files.as_slice(), store, store.names())?;
+    let files = files_left(alloc, task, status, store)?;
     let reply = pack_reply(
         alloc,
         outcome(status),
@@ -87,6 +90,24 @@ fn pack_run(
         files.as_slice(),
     )?;
     Ok(reply)
+}
+
+/// Returns the files that a run left and that weren't given so. A refused run left none, which takes no look at them.
+fn files_left<'a>(
+    alloc: Global,
+    task: &Task<'_>,
+    status: Status,
+    store: &'a GrowingStore<'_>,
+) -> Result<Items<TaskFile<'a>>, Memory>
+    requires { status ≡ Refused → (task_store_view store.now).files ≡ Some (content_in (task_value task.now).files) }
+    ensures { IfOk result (λ files. (names : _) × ListsFiles names (files_now store.now) × (map file_value files
+        ≡ changed_files (task_value task.now).files (files_now store.now) names)) }
+{
+    let names = store.names();
+    match status {
+        Status::Refused => Ok(Items::new(alloc)),
+        _ => changed_files(alloc, task.files.as_slice(), store, names),
+    }
 }
 
 /// Returns the outcome of a run that ended with that status.
