@@ -1,10 +1,12 @@
-// Runs the programs of the module, each run in an instance of its own, beside the page.
+// Runs the programs of the module beside the page.
 import { lengthOf, packParts, requestParts, unpackReply } from "./packing.js";
 
 // The bytes that are prepared for a reply: a number of them, more for each byte of the request, and a number that they don't exceed.
 // A longer reply is made again, in as many bytes as it needs.
 const ROOM = 1 << 25, ROOM_EACH = 48, ROOM_MOST = 1 << 27;
-let compiled;
+// A run takes up the memory of the one before, if that has at most so many bytes and didn't fail.
+const KEPT_MOST = 1 << 28;
+let compiled, kept = null;
 
 // Places bytes in the memory of an instance, and returns where.
 function place(exports, length) {
@@ -15,12 +17,16 @@ function place(exports, length) {
 
 // The reply of a program, or the length that it needs where that is more than the room. The files are copied once, into the memory.
 function replyOf(program, parts, room) {
-    const { exports } = new WebAssembly.Instance(compiled, {});
+    const exports = kept ?? new WebAssembly.Instance(compiled, {}).exports;
+    kept = null;
     const given = lengthOf(parts), at = place(exports, given), to = place(exports, room);
     packParts(parts, new Uint8Array(exports.memory.buffer, at, given));
     const length = Number(exports[`${program}_run`](BigInt(at), BigInt(given), BigInt(to), BigInt(room)));
     const memory = exports.memory.buffer.byteLength;
-    return length > room ? { length } : { ...unpackReply(new Uint8Array(exports.memory.buffer, to, length)), memory };
+    const reply = length > room ? { length } : { ...unpackReply(new Uint8Array(exports.memory.buffer, to, length)), memory };
+    for (const block of [to, at]) exports.stitch_free(BigInt(block));
+    if (memory <= KEPT_MOST) kept = exports;
+    return reply;
 }
 
 onmessage = ({ data: { module, id, program, words, files } }) => {
