@@ -2,6 +2,7 @@
 -- three, and the name `b` (98) has room for two bytes and no file.
 use Rattle.std.proofs.Common.{◌≡◌, ℕ, List, [], ◌∷◌, Some, None, Ok, Err, true, false, refl, ap, arith, true≢false}
 use Rattle.outside_io.proofs.Names.{failure_added, put_failure_added, Failed, MemPuts, MemSinkValue, EntryValue, file_in, with_content, with_file, with_room, MemCreates, MemReads, MemStoreValue, empty_sink, put_fails, room_in, exceeds_room, with_bytes_appended, empty_store, is_next_call_listed}
+use Rattle.outside_io.specs.MemStores.{files_of, store_view, visible_files}
 
 pub two : List EntryValue
 two =
@@ -127,3 +128,9 @@ known_read new after reads = one reads.3
   where
     one : ◌≡◌ {A = ℕ} 0 1 → ⊥
     one is = omega (arith, is)
+
+-- the view of a store in memory: all of its files, and its faults
+pub known_store_view : (store : MemStoreValue) → ((store_view store).files ≡ visible_files store)
+    × (visible_files store ≡ Some (files_of store)) × ((store_view store).faults ≡ store.faults)
+    × ((store_view store).blame ≡ store.blame)
+known_store_view store = (refl, refl, refl, refl)
