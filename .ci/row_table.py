@@ -183,8 +183,8 @@ row("usage of stitch_drawing, with files there", HERE, misused("stitch_drawing")
     ("stitch_drawing space a.rw b.rw length=0", "length=0: from 1 to 2047"),
     ("stitch_drawing edit a.rw b.rw", "b.rw: needs an edit"), ("stitch_drawing edit a.rw a.rw turn=1", "a.rw: is the input"),
     *[(f"stitch_drawing edit a.rw b.rw {edit}", f"{edit}: not an edit") for edit in (
-        "turn=4", "mirror=z", "shift=60001,0", "thread=1,2", "step=0", "step=2048", "order=0,1", "order=1,1025", "order=1",
-        "start=30001,0", "end=0,-30001", "start=1", "centre=1")],
+        "turn=4", "mirror=z", "shift=60001,0", "thread=1,2", "step=0", "step=2048", "order=0,1", "order=1,0", "order=1,1025",
+        "order=1025,1", "order=1", "start=30001,0", "end=0,-30001", "start=1", "centre=1")],
     ("stitch_drawing edit a.rw b.rw centre frob", "frob: not an edit"), ("stitch_drawing --help a.rw", "a.rw: not understood"),
     (["stitch_drawing", "look", ""], ": not a file name"), (["stitch_drawing", "look", "a" * 4097], "a" * 200 + ": not a file name")),
     done("stitch_drawing --help", USAGE["stitch_drawing"]), done("stitch_drawing --version", "stitch_drawing 0.4.0\n"))
@@ -996,7 +996,8 @@ row("what a drawing may have between its words", {
 THREE_PIECES = rw(3, "step 10", "color 1", "line 0 0 10 0", "line 20 0 25 0 30 0", "color 2", "line 0 0 0 10")
 row("edits of a drawing that are refused", {"a.rw": THREE_PIECES}, *[
     refused(f"stitch_drawing edit a.rw b.rw {edits}", f"a.rw: edit {number}: {what}") for edits, number, what in [
-        ("order=4,1", 1, "no piece 4"), ("order=1,1024", 1, "no piece 1024"), ("turn=1 order=9,9", 2, "no piece 9"),
+        ("order=4,1", 1, "no piece 4"), ("order=1,1024", 1, "no piece 1024"), ("order=300,1", 1, "no piece 300"),
+        ("order=1024,1024", 1, "no piece 1024"), ("turn=1 order=9,9", 2, "no piece 9"),
         ("order=1,1", 1, "both pieces are one"), ("centre order=3,3", 2, "both pieces are one"),
         ("order=1,3", 1, "pieces in different blocks"), ("order=2,1 order=3,2", 2, "pieces in different blocks"),
         ("start=0,0", 1, "two blocks list the point"), ("turn=0 turn=0 end=0,0", 3, "two blocks list the point"),
