@@ -1,4 +1,5 @@
 mod colours;
+mod comparisons;
 mod designs;
 mod edits;
 mod hoops;

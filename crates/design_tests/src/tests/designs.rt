@@ -1,8 +1,10 @@
+use super::comparisons::{compare, compare_row};
 use crate::stitch;
 use design_model::{
     Act, Acts, Bytes, Command, Design, Extent, Memory, ModelFault, NumberedAct, Point, Whole, acts,
     block_counts, counts, extent, height, parse_whole, width,
 };
+use std::alloc::Global;
 use std::test::Fail;
 use test_values::{design_of, large};
 
@@ -15,34 +17,45 @@ fn a_list_keeps_what_is_pushed_and_appended(rt: HostRuntime) -> Result<(), Fail>
     let mut bytes = Bytes::new(rt.alloc());
     bytes.push(7)?;
     bytes.append(&[8, 9])?;
-    assert_eq!(rt; bytes.as_slice(), [7, 8, 9].as_slice());
+    compare(&rt, bytes.as_slice(), &[7, 8, 9]);
     Ok(())
 }
 
+/// Commands, and whether a design takes them.
+const PUSHES: [(Command, Result<(), ModelFault>); 6] = [
+    (Command::Stitch(Point { x: 30_000, y: 0 }), Ok(())),
+    (
+        Command::Stitch(Point { x: -30_001, y: 0 }),
+        Err(ModelFault::Range),
+    ),
+    (Command::Jump(Point { x: -32_767, y: 0 }), Ok(())),
+    (
+        Command::Jump(Point { x: 32_768, y: 0 }),
+        Err(ModelFault::Range),
+    ),
+    (Command::Trim, Ok(())),
+    (Command::Stop, Ok(())),
+];
+
 #[test]
 fn a_push_refuses_by_range_and_keeps_the_rest(rt: HostRuntime) -> Result<(), Fail> {
-    let cases = [
-        (Command::Stitch(at(30_000)), Ok(())),
-        (Command::Stitch(at(-30_001)), Err(ModelFault::Range)),
-        (Command::Jump(at(-32_767)), Ok(())),
-        (Command::Jump(at(32_768)), Err(ModelFault::Range)),
-        (Command::Trim, Ok(())),
-        (Command::Stop, Ok(())),
-    ];
     let mut design = Design::new(rt.alloc());
-    for (command, answer) in cases {
-        assert_eq!(rt; design.push(command), answer, "{command:?}");
+    for (command, answer) in &PUSHES {
+        compare_row(&rt, *command, &design.push(*command), answer);
     }
-    assert_eq!(rt; design.commands().len(), 4);
+    compare(&rt, design.commands().len(), 4);
     Ok(())
 }
+
+/// Blocks of a design that keeps the thread 200, and their threads.
+const THREADS: [(u32, u8); 5] = [(0, 200), (1, 2), (63, 64), (64, 1), (4_294_967_295, 64)];
 
 #[test]
 fn threads_are_the_kept_ones_and_then_go_round(rt: HostRuntime) -> Result<(), Fail> {
     let mut design = Design::new(rt.alloc());
     design.push_thread(200);
-    for (block, thread) in [(0, 200), (1, 2), (63, 64), (64, 1), (4_294_967_295, 64)] {
-        assert_eq!(rt; design.thread(block), thread, "block {block}");
+    for (block, thread) in &THREADS {
+        compare_row(&rt, *block, design.thread(*block), *thread);
     }
     Ok(())
 }
@@ -80,7 +93,7 @@ fn acts_carry_the_numbers_of_their_commands(rt: HostRuntime) -> Result<(), Fail>
             act: Act::Trim,
         },
     ];
-    assert_eq!(rt; listed?.as_slice(), expected.as_slice());
+    compare(&rt, listed?.as_slice(), expected.as_slice());
     Ok(())
 }
 
@@ -97,6 +110,16 @@ const MIXED: [Command; 6] = [
     Command::Stitch(Point { x: -1, y: -1 }),
 ];
 
+/// The mixed commands after all points that they take.
+const MOVED: [Command; 6] = [
+    Command::Jump(Point { x: 32_767, y: 0 }),
+    Command::Stitch(Point { x: 0, y: -30_000 }),
+    Command::Stitch(Point { x: 2, y: -7 }),
+    Command::Trim,
+    Command::Stop,
+    Command::Stitch(Point { x: -1, y: -1 }),
+];
+
 const BARE: [Command; 4] = [
     Command::Trim,
     Command::Jump(Point { x: 9, y: 9 }),
@@ -104,60 +127,61 @@ const BARE: [Command; 4] = [
     Command::Stop,
 ];
 
+/// Commands, their number and those of needles, trims and stops, the corners, and the needles of each block.
+const COUNTED: [(&[Command], [u32; 4], Option<Extent>, &[u32]); 3] = [
+    (&[], [0, 0, 0, 0], None, &[0]),
+    (
+        &MIXED,
+        [6, 3, 1, 1],
+        Some(Extent {
+            min: Point { x: -3, y: -7 },
+            max: Point { x: 2, y: 4 },
+        }),
+        &[2, 1],
+    ),
+    (&BARE, [4, 0, 0, 2], None, &[0, 0, 0]),
+];
+
 #[test]
 fn a_design_is_counted_measured_and_parted_into_blocks(rt: HostRuntime) -> Result<(), Fail> {
-    let corners = Extent {
-        min: place(-3, -7),
-        max: place(2, 4),
-    };
-    let cases = [
-        ([].as_slice(), [0, 0, 0, 0], None, [0].as_slice()),
-        (
-            MIXED.as_slice(),
-            [6, 3, 1, 1],
-            Some(corners),
-            [2, 1].as_slice(),
-        ),
-        (BARE.as_slice(), [4, 0, 0, 2], None, [0, 0, 0].as_slice()),
-    ];
-    for (commands, numbers, corners, blocks) in cases {
+    for (commands, numbers, corners, blocks) in &COUNTED {
         let design = design_of(rt.alloc(), commands)?;
         let told = counts(&design);
-        assert_eq!(rt;
+        compare_row(
+            &rt,
+            *commands,
             [told.commands, told.needles, told.trims, told.stops],
-            numbers,
-            "{commands:?}"
+            *numbers,
         );
-        assert_eq!(rt; extent(&design), corners, "{commands:?}");
-        assert_eq!(rt;
-            block_counts(rt.alloc(), &design)?.as_slice(),
-            blocks,
-            "{commands:?}"
-        );
+        compare_row(&rt, *commands, extent(&design), *corners);
+        let sewn = block_counts(rt.alloc(), &design)?;
+        compare_row(&rt, *commands, sewn.as_slice(), *blocks);
     }
     Ok(())
 }
 
+/// Words, and what they spell.
+const WORDS: [(&str, Whole); 14] = [
+    ("0", Whole::Value(0)),
+    ("-0", Whole::Value(0)),
+    ("-007", Whole::Value(-7)),
+    ("999999999", Whole::Value(999_999_999)),
+    ("-999999999", Whole::Value(-999_999_999)),
+    ("0000000000000000000001", Whole::Value(1)),
+    ("1000000000", Whole::Outside),
+    ("-99999999999999999999999999999999999999", Whole::Outside),
+    ("99999999999999999999999999999999999999x", Whole::NotANumber),
+    ("", Whole::NotANumber),
+    ("-", Whole::NotANumber),
+    ("+5", Whole::NotANumber),
+    ("--5", Whole::NotANumber),
+    ("5-", Whole::NotANumber),
+];
+
 #[test]
 fn a_word_spells_a_whole_number_of_nine_digits(rt: HostRuntime) {
-    let cases = [
-        ("0", Whole::Value(0)),
-        ("-0", Whole::Value(0)),
-        ("-007", Whole::Value(-7)),
-        ("999999999", Whole::Value(999_999_999)),
-        ("-999999999", Whole::Value(-999_999_999)),
-        ("0000000000000000000001", Whole::Value(1)),
-        ("1000000000", Whole::Outside),
-        ("-99999999999999999999999999999999999999", Whole::Outside),
-        ("99999999999999999999999999999999999999x", Whole::NotANumber),
-        ("", Whole::NotANumber),
-        ("-", Whole::NotANumber),
-        ("+5", Whole::NotANumber),
-        ("--5", Whole::NotANumber),
-        ("5-", Whole::NotANumber),
-    ];
-    for (word, spelled) in cases {
-        assert_eq!(rt; parse_whole(word.as_bytes()), spelled, "`{word}`");
+    for (word, spelled) in &WORDS {
+        compare_row(&rt, *word, &parse_whole(word.as_bytes()), spelled);
     }
 }
 
@@ -173,65 +197,74 @@ fn put_point(design: &mut Design, index: usize, point: Point) {
     }
 }
 
+/// Places of commands, and the points that are put there.
+const PUTS: [(usize, i32, i32); 4] = [(0, 32_767, 0), (1, 0, -30_000), (2, 0, 30_001), (3, 0, 0)];
+
 #[test]
-fn one_thread_and_one_point_are_put_in_place(rt: HostRuntime) -> Result<(), Fail> {
-    let mut design = Design::new(rt.alloc());
+fn one_thread_is_put_in_place_and_stays_without_commands(rt: HostRuntime) -> Result<(), Fail> {
+    let mut design = design_of(rt.alloc(), &MIXED)?;
     design.push_thread(5);
-    for command in MIXED {
-        design.push(command)?;
-    }
     put_thread(&mut design, 0, 7);
-    assert_eq!(rt; design.threads(), [7].as_slice());
-
-    for (index, x, y) in [(0, 32_767, 0), (1, 0, -30_000), (2, 0, 30_001), (3, 0, 0)] {
-        put_point(&mut design, index, place(x, y));
-    }
-    let moved = [
-        Command::Jump(place(32_767, 0)),
-        stitch(0, -30_000),
-        MIXED[2],
-        MIXED[3],
-        MIXED[4],
-        MIXED[5],
-    ];
-    assert_eq!(rt; design.commands(), moved.as_slice());
-
+    compare(&rt, design.threads(), &[7]);
     let bare = design.without_commands(rt.alloc());
-    assert_eq!(rt; bare.threads(), [7].as_slice());
-    assert_eq!(rt; bare.commands(), [].as_slice());
+    compare(&rt, bare.threads(), &[7]);
+    compare(&rt, bare.commands(), &[]);
     Ok(())
 }
 
 #[test]
-fn a_design_as_large_as_a_real_one_is_kept_and_told_whole(rt: HostRuntime) -> Result<(), Fail> {
-    let design = large(rt.alloc(), &[9, 200, 64], |x| {
+fn points_are_put_in_place_where_commands_take_them(rt: HostRuntime) -> Result<(), Fail> {
+    let mut design = design_of(rt.alloc(), &MIXED)?;
+    for (index, x, y) in &PUTS {
+        put_point(&mut design, *index, place(*x, *y));
+    }
+    compare(&rt, design.commands(), &MOVED);
+    Ok(())
+}
+
+/// Returns a design as large as a real one, of floats, stitches and trims.
+fn rose(alloc: Global) -> Result<Design, ModelFault> {
+    large(alloc, &[9, 200, 64], |x| {
         [
             Command::Jump(at(x)),
             stitch(x, 7),
             stitch(x, 8),
             Command::Trim,
         ]
-    })?;
-    assert_eq!(rt; design.label(), b"Rose of Damascus".as_slice());
-    assert_eq!(rt; design.threads(), [9, 200, 64].as_slice());
-    assert_eq!(rt; [design.thread(2), design.thread(3)], [64, 4]);
+    })
+}
+
+#[test]
+fn a_design_as_large_as_a_real_one_is_kept_whole(rt: HostRuntime) -> Result<(), Fail> {
+    let design = rose(rt.alloc())?;
+    compare(&rt, design.label(), b"Rose of Damascus");
+    compare(&rt, design.threads(), &[9, 200, 64]);
+    compare(&rt, [design.thread(2), design.thread(3)], [64, 4]);
+    let bare = design.without_commands(rt.alloc());
+    compare(&rt, bare.label(), b"Rose of Damascus");
+    Ok(())
+}
+
+#[test]
+fn a_design_as_large_as_a_real_one_is_told_whole(rt: HostRuntime) -> Result<(), Fail> {
+    let design = rose(rt.alloc())?;
     let all = counts(&design);
-    assert_eq!(rt;
-        [all.commands, all.needles, all.trims, all.stops],
-        [10_000, 5000, 2497, 3]
-    );
-    let listed = acts(rt.alloc(), &design)?;
-    assert_eq!(rt; listed.len(), 7500);
-    assert_eq!(rt;
-        listed.as_slice().last(),
-        Some(&NumberedAct {
-            number: 10_000,
-            act: Act::Trim
-        })
-    );
-    assert_eq!(rt; [width(extent(&design)), height(extent(&design))], [99, 1]);
+    let numbers = [all.commands, all.needles, all.trims, all.stops];
+    compare(&rt, numbers, [10_000, 5000, 2497, 3]);
+    let corners = extent(&design);
+    compare(&rt, [width(corners), height(corners)], [99, 1]);
     let blocks = block_counts(rt.alloc(), &design)?;
-    assert_eq!(rt; blocks.as_slice(), [1400, 1400, 1400, 800].as_slice());
-    assert_eq!(rt; design.without_commands(rt.alloc()).label(), design.label());
+    compare(&rt, blocks.as_slice(), &[1400, 1400, 1400, 800]);
+    Ok(())
+}
+
+#[test]
+fn a_design_as_large_as_a_real_one_has_all_its_acts(rt: HostRuntime) -> Result<(), Fail> {
+    let design = rose(rt.alloc())?;
+    let listed = acts(rt.alloc(), &design)?;
+    compare(&rt, listed.len(), 7500);
+    let (number, act) = (10_000, Act::Trim);
+    let last = listed.as_slice().last();
+    compare(&rt, last, Some(&NumberedAct { number, act }));
     Ok(())
 }

@@ -1,3 +1,4 @@
+use super::comparisons::{compare, compare_row};
 use crate::stitch;
 use design_model::{Command, Design, ModelFault, Point};
 use hoop_check::{Fit, fits};
@@ -13,25 +14,53 @@ fn sewn(rt: &HostRuntime, points: &[(i32, i32)]) -> Result<Design, ModelFault> {
     Ok(design)
 }
 
+const CORNER: [(i32, i32); 3] = [(0, 0), (30, 0), (30, 30)];
+
+const LINE: [(i32, i32); 2] = [(0, 0), (30, 0)];
+
+const SLANT: [(i32, i32); 2] = [(7, -1), (-5, 3)];
+
+/// Needles, the width and the height of a hoop, and whether they fit into it.
+const FITS: [(&[(i32, i32)], u32, u32, Fit); 8] = [
+    (&CORNER, 30, 30, Fit::Upright),
+    (
+        &CORNER,
+        20,
+        25,
+        Fit::No {
+            over_x: 10,
+            over_y: 5,
+        },
+    ),
+    (&LINE, 10, 30, Fit::Turned),
+    (
+        &LINE,
+        29,
+        29,
+        Fit::No {
+            over_x: 1,
+            over_y: 0,
+        },
+    ),
+    (&SLANT, 12, 4, Fit::Upright),
+    (&SLANT, 4, 12, Fit::Turned),
+    (
+        &SLANT,
+        11,
+        11,
+        Fit::No {
+            over_x: 1,
+            over_y: 0,
+        },
+    ),
+    (&[], 0, 0, Fit::Upright),
+];
+
 #[test]
 fn a_design_fits_upright_turned_or_not(rt: HostRuntime) -> Result<(), Fail> {
-    let corner = sewn(&rt, &[(0, 0), (30, 0), (30, 30)])?;
-    let line = sewn(&rt, &[(0, 0), (30, 0)])?;
-    let slant = sewn(&rt, &[(7, -1), (-5, 3)])?;
-    let none = sewn(&rt, &[])?;
-    let over = |over_x, over_y| Fit::No { over_x, over_y };
-    let table = [
-        (&corner, 30, 30, Fit::Upright),
-        (&corner, 20, 25, over(10, 5)),
-        (&line, 10, 30, Fit::Turned),
-        (&line, 29, 29, over(1, 0)),
-        (&slant, 12, 4, Fit::Upright),
-        (&slant, 4, 12, Fit::Turned),
-        (&slant, 11, 11, over(1, 0)),
-        (&none, 0, 0, Fit::Upright),
-    ];
-    for (design, w, h, fit) in table {
-        assert_eq!(rt; fits(design, w, h), fit, "into {w} by {h}");
+    for (points, w, h, fit) in &FITS {
+        let design = sewn(&rt, points)?;
+        compare_row(&rt, (*w, *h), &fits(&design, *w, *h), fit);
     }
     Ok(())
 }
@@ -43,12 +72,12 @@ fn a_large_design_fits_by_all_its_needles(rt: HostRuntime) -> Result<(), Fail> {
         let outside = Command::Jump(Point { x: 900, y: x });
         [stitch(x, 300), outside, stitch(x, 100), Command::Trim]
     })?;
-    assert_eq!(rt; fits(&design, 99, 200), Fit::Upright);
-    assert_eq!(rt; fits(&design, 200, 99), Fit::Turned);
+    compare(&rt, fits(&design, 99, 200), Fit::Upright);
+    compare(&rt, fits(&design, 200, 99), Fit::Turned);
     let over = Fit::No {
         over_x: 1,
         over_y: 3,
     };
-    assert_eq!(rt; fits(&design, 98, 197), over);
+    compare(&rt, fits(&design, 98, 197), over);
     Ok(())
 }

@@ -1,62 +1,88 @@
+use super::comparisons::compare_row;
 use crate::stitch;
-use design_model::Command;
+use design_model::{Command, Design, Memory, Point};
 use design_picture::{Hoop, picture};
 use memchr::memmem;
+use std::alloc::Global;
 use std::test::Fail;
 use test_values::design_of;
 
+/// Returns whether the picture of a design in a hoop has the given part.
+fn shows(alloc: Global, design: &Design, hoop: Option<Hoop>, part: &str) -> Result<bool, Memory> {
+    let text = picture(alloc, design, hoop, None)?;
+    Ok(memmem::find(text.as_slice(), part.as_bytes()).is_some())
+}
+
+/// Commands, and a part of their picture.
+const PICTURES: [([Command; 3], &str); 4] = [
+    (
+        [
+            Command::Stitch(Point { x: 0, y: 0 }),
+            Command::Stitch(Point { x: 9, y: -9 }),
+            Command::Trim,
+        ],
+        "d='\nM0,0L9,-9'/>\n<path class='again' stroke='#ff6a00' d=''/>\n<path class='hole' d='M0,0h0M9,-9h0'/>\n",
+    ),
+    (
+        [
+            Command::Stitch(Point { x: 0, y: 0 }),
+            Command::Stop,
+            Command::Stitch(Point { x: 4, y: 5 }),
+        ],
+        "<path class='travel' d='M0,0L4,5'/>\n",
+    ),
+    (
+        [
+            Command::Stitch(Point { x: 0, y: 0 }),
+            Command::Stitch(Point { x: 30, y: 0 }),
+            Command::Stitch(Point { x: 0, y: 0 }),
+        ],
+        "\nM0,0L30,0A30,30,0,0,1,0,0'/>\n",
+    ),
+    (
+        [Command::Stop, Command::Trim, Command::Stop],
+        "needles 0, pieces 0, trims 0, stops 2</text>\n",
+    ),
+];
+
 #[test]
 fn a_picture_shows_the_acts_in_order(rt: HostRuntime) -> Result<(), Fail> {
-    let table = [
-        (
-            [stitch(0, 0), stitch(9, -9), Command::Trim],
-            "d='\nM0,0L9,-9'/>\n<path class='again' stroke='#ff6a00' d=''/>\n<path class='hole' d='M0,0h0M9,-9h0'/>\n",
-        ),
-        (
-            [stitch(0, 0), Command::Stop, stitch(4, 5)],
-            "<path class='travel' d='M0,0L4,5'/>\n",
-        ),
-        (
-            [stitch(0, 0), stitch(30, 0), stitch(0, 0)],
-            "\nM0,0L30,0A30,30,0,0,1,0,0'/>\n",
-        ),
-        (
-            [Command::Stop, Command::Trim, Command::Stop],
-            "needles 0, pieces 0, trims 0, stops 2</text>\n",
-        ),
-    ];
-    for (commands, part) in table {
-        let text = picture(rt.alloc(), &design_of(rt.alloc(), &commands)?, None, None)?;
-        let found = memmem::find(text.as_slice(), part.as_bytes());
-        assert!(rt; found.is_some(), "{part}");
+    for (commands, part) in &PICTURES {
+        let design = design_of(rt.alloc(), commands)?;
+        compare_row(&rt, *part, shows(rt.alloc(), &design, None, part)?, true);
     }
     Ok(())
 }
 
+/// Hoops by their width and height, and how they are drawn.
+const HOOPS: [(u32, u32, &str); 3] = [
+    (
+        300,
+        100,
+        "<path class='line' d='M0,0m-0.0,-0.0h300v100h-300z'/>",
+    ),
+    (
+        101,
+        301,
+        "<path class='line' d='M0,0m-0.5,-0.5h301v101h-301z'/>",
+    ),
+    (
+        299,
+        99,
+        "<path class='line over' d='M0,0m0.5,0.5h299v99h-299z'/>",
+    ),
+];
+
 #[test]
 fn a_hoop_that_is_too_small_is_red(rt: HostRuntime) -> Result<(), Fail> {
     let design = design_of(rt.alloc(), &[stitch(0, 0), stitch(300, 100)])?;
-    let table = [
-        (
-            300,
-            100,
-            "<path class='line' d='M0,0m-0.0,-0.0h300v100h-300z'/>",
-        ),
-        (
-            101,
-            301,
-            "<path class='line' d='M0,0m-0.5,-0.5h301v101h-301z'/>",
-        ),
-        (
-            299,
-            99,
-            "<path class='line over' d='M0,0m0.5,0.5h299v99h-299z'/>",
-        ),
-    ];
-    for (width, height, part) in table {
-        let text = picture(rt.alloc(), &design, Some(Hoop { width, height }), None)?;
-        let found = memmem::find(text.as_slice(), part.as_bytes());
-        assert!(rt; found.is_some(), "{part}");
+    for (width, height, part) in &HOOPS {
+        let hoop = Hoop {
+            width: *width,
+            height: *height,
+        };
+        let shown = shows(rt.alloc(), &design, Some(hoop), part)?;
+        compare_row(&rt, *part, shown, true);
     }
     Ok(())
 }

@@ -1,11 +1,29 @@
+use super::comparisons::{compare, compare_row};
 use crate::stitch;
 use design_model::{
     Command, Design, MAX_COMMANDS, ModelFault, NEEDLE_LIMIT, Point, Points, counts,
 };
 use std::alloc::Global;
+use std::process::Abort;
 use std::test::Fail;
 use step_splitter::{MAX_STEP, RefitFault, RefitMode, refit, split, steps};
 use test_values::{design_of, large};
+
+macro_rules! points {
+    ($(($x:expr, $y:expr)),*) => { [$(Point { x: $x, y: $y }),*] };
+}
+
+macro_rules! stitch {
+    ($x:expr, $y:expr) => {
+        Command::Stitch(Point { x: $x, y: $y })
+    };
+}
+
+macro_rules! jump {
+    ($x:expr, $y:expr) => {
+        Command::Jump(Point { x: $x, y: $y })
+    };
+}
 
 fn at(place: (i32, i32)) -> Point {
     Point {
@@ -36,42 +54,43 @@ fn ends(alloc: Global, from: (i32, i32), to: (i32, i32), step: u32) -> Option<Po
     split(alloc, p, q, step).ok()
 }
 
+/// The ends of segments, the longest step, and the number of steps.
+const COUNTS: [((i32, i32), (i32, i32), u32, u32); 6] = [
+    ((0, 0), (30, 0), 30, 1),
+    ((0, 0), (31, 0), 30, 2),
+    ((0, 0), (0, -31), 30, 2),
+    ((5, 5), (5, 6), 2_047, 1),
+    ((-30_000, 0), (30_000, 0), 1, 60_000),
+    ((0, 0), (-7, 3), 3, 3),
+];
+
 #[test]
 fn a_segment_has_as_few_steps_as_the_longest_one_allows(rt: HostRuntime) {
-    let table = [
-        ((0, 0), (30, 0), 30, 1),
-        ((0, 0), (31, 0), 30, 2),
-        ((0, 0), (0, -31), 30, 2),
-        ((5, 5), (5, 6), 2_047, 1),
-        ((-30_000, 0), (30_000, 0), 1, 60_000),
-        ((0, 0), (-7, 3), 3, 3),
-    ];
-    for (from, to, step, wanted) in table {
-        assert_eq!(rt; count(from, to, step), wanted, "at the longest step {step}");
+    for (from, to, step, wanted) in &COUNTS {
+        compare_row(&rt, *step, count(*from, *to, *step), *wanted);
     }
 }
+
+/// The ends of segments, the longest step, and the ends of the steps.
+const ENDS: [((i32, i32), (i32, i32), u32, [Point; 3]); 4] = [
+    ((0, 0), (-7, 3), 3, points!((-3, 1), (-5, 2), (-7, 3))),
+    ((0, 0), (7, -3), 3, points!((2, -1), (4, -2), (7, -3))),
+    ((10, 10), (10, 0), 4, points!((10, 6), (10, 3), (10, 0))),
+    (
+        (30_000, -30_000),
+        (25_000, -30_000),
+        2_000,
+        points!((28_333, -30_000), (26_666, -30_000), (25_000, -30_000)),
+    ),
+];
 
 #[test]
 fn the_ends_of_the_steps_are_rounded_towards_the_lesser_number(
     rt: HostRuntime,
 ) -> Result<(), Fail> {
-    let table: [((i32, i32), (i32, i32), u32, [(i32, i32); 3]); 4] = [
-        ((0, 0), (-7, 3), 3, [(-3, 1), (-5, 2), (-7, 3)]),
-        ((0, 0), (7, -3), 3, [(2, -1), (4, -2), (7, -3)]),
-        ((10, 10), (10, 0), 4, [(10, 6), (10, 3), (10, 0)]),
-        (
-            (30_000, -30_000),
-            (25_000, -30_000),
-            2_000,
-            [(28_333, -30_000), (26_666, -30_000), (25_000, -30_000)],
-        ),
-    ];
-    for (from, to, step, wanted) in table {
-        let points = ends(rt.alloc(), from, to, step).ok_or("no memory")?;
-        assert_eq!(rt; points.len(), 3, "at the longest step {step}");
-        for (point, place) in points.as_slice().iter().zip(wanted.iter()) {
-            assert!(rt; *point == at(*place), "at the longest step {step}");
-        }
+    for (from, to, step, wanted) in &ENDS {
+        let points = ends(rt.alloc(), *from, *to, *step).ok_or("no memory")?;
+        compare_row(&rt, *step, points.as_slice(), wanted);
     }
     Ok(())
 }
@@ -99,69 +118,100 @@ fn fitted(
     Ok(refit(alloc, &design, limit, mode).ok().ok_or("no memory")?)
 }
 
+const FAR_APART: [Command; 5] = [
+    stitch!(0, 0),
+    jump!(400, 0),
+    stitch!(400, 0),
+    Command::Stop,
+    stitch!(0, 0),
+];
+
+const FLOAT: [Command; 6] = [
+    stitch!(0, 0),
+    jump!(100, 0),
+    jump!(200, 0),
+    jump!(300, 0),
+    jump!(400, 0),
+    stitch!(400, 0),
+];
+
+const FIFTHS: [Command; 6] = [
+    stitch!(0, 0),
+    stitch!(100, 0),
+    stitch!(200, 0),
+    stitch!(300, 0),
+    stitch!(400, 0),
+    stitch!(500, 0),
+];
+
+const FAR: [Command; 2] = [stitch!(0, 0), stitch!(400, 0)];
+
+/// Refits by their mode and limit, commands, and what they are after it.
+const REFITS: [(RefitMode, u32, &[Command], &[Command]); 6] = [
+    (
+        RefitMode::Split,
+        121,
+        &[stitch!(0, 0), stitch!(122, 0)],
+        &[stitch!(0, 0), stitch!(61, 0), stitch!(122, 0)],
+    ),
+    (
+        RefitMode::Split,
+        127,
+        &[stitch!(0, 0), stitch!(-5, 128)],
+        &[stitch!(0, 0), stitch!(-3, 64), stitch!(-5, 128)],
+    ),
+    (
+        RefitMode::Split,
+        121,
+        &[stitch!(0, 0), stitch!(500, 0)],
+        &FIFTHS,
+    ),
+    (RefitMode::Split, 121, &FAR_APART, &FAR_APART),
+    (
+        RefitMode::Cut,
+        121,
+        &FLOAT,
+        &[stitch!(0, 0), Command::Trim, stitch!(400, 0)],
+    ),
+    (RefitMode::Cut, 121, &FAR, &FAR),
+];
+
 #[test]
-fn far_needles_are_split(rt: HostRuntime) -> Result<(), Fail> {
-    let (start, far) = (stitch(0, 0), stitch(122, 0));
-    let halves = fitted(rt.alloc(), RefitMode::Split, 121, &[start, far])?;
-    assert_eq!(rt; halves.commands(), [start, stitch(61, 0), far].as_slice());
-    assert_eq!(rt; halves.threads(), [9].as_slice());
-
-    let down = stitch(-5, 128);
-    let floored = fitted(rt.alloc(), RefitMode::Split, 127, &[start, down])?;
-    assert_eq!(rt;
-        floored.commands(),
-        [start, stitch(-3, 64), down].as_slice()
-    );
-
-    let (a, b, c, d) = (
-        stitch(100, 0),
-        stitch(200, 0),
-        stitch(300, 0),
-        stitch(400, 0),
-    );
-    let end = stitch(500, 0);
-    let fifths = fitted(rt.alloc(), RefitMode::Split, 121, &[start, end])?;
-    assert_eq!(rt; fifths.commands(), [start, a, b, c, d, end].as_slice());
-
-    let far_apart = [start, jump(400, 0), d, Command::Stop, start];
-    let kept = fitted(rt.alloc(), RefitMode::Split, 121, &far_apart)?;
-    assert_eq!(rt; kept.commands(), far_apart.as_slice());
+fn far_needles_are_split_and_floats_are_cut(rt: HostRuntime) -> Result<(), Fail> {
+    for (mode, limit, before, after) in &REFITS {
+        let design = fitted(rt.alloc(), *mode, *limit, before)?;
+        compare_row(&rt, *before, design.commands(), *after);
+        compare_row(&rt, *before, design.threads(), &[9]);
+    }
     Ok(())
 }
 
-#[test]
-fn floats_are_cut(rt: HostRuntime) -> Result<(), Fail> {
-    let (start, end) = (stitch(0, 0), stitch(400, 0));
-    let float = [
-        start,
-        jump(100, 0),
-        jump(200, 0),
-        jump(300, 0),
-        jump(400, 0),
-        end,
-    ];
-    let cut = fitted(rt.alloc(), RefitMode::Cut, 121, &float)?;
-    assert_eq!(rt; cut.commands(), [start, Command::Trim, end].as_slice());
-
-    let kept = fitted(rt.alloc(), RefitMode::Cut, 121, &[start, end])?;
-    assert_eq!(rt; kept.commands(), [start, end].as_slice());
-    Ok(())
-}
-
-#[test]
-fn a_refit_stops_at_the_act_with_a_command_too_many(rt: HostRuntime) -> Result<(), Fail> {
-    let mut design = Design::new(rt.alloc());
+/// Returns a design of stitches at one place, and then a float, which with its needle has the last commands but one.
+fn full(alloc: Global) -> Result<Design, ModelFault> {
+    let mut design = Design::new(alloc);
     for _ in 0..MAX_COMMANDS - 3 {
         design.push(stitch(0, 0))?;
     }
     design.push(Command::Jump(Point { x: 0, y: 0 }))?;
     design.push(stitch(10, 0))?;
-    assert!(rt; refit(rt.alloc(), &design, 10, RefitMode::Split).is_ok());
+    Ok(design)
+}
 
+#[test]
+fn a_refit_stops_at_the_act_with_a_command_too_many(rt: HostRuntime) -> Result<(), Fail> {
+    let mut design = full(rt.alloc())?;
+    let refitted = refit(rt.alloc(), &design, 10, RefitMode::Split);
+    compare(&rt, refitted.is_ok(), true);
     design.push(stitch(31, 0))?;
     let fault = refit(rt.alloc(), &design, 10, RefitMode::Split).err();
-    assert_eq!(rt; fault, Some(RefitFault::TooMany { number: 1_000_000 }));
+    compare(&rt, fault, Some(RefitFault::TooMany { number: 1_000_000 }));
     Ok(())
+}
+
+/// Compares the needles, trims and stops of a design with the given numbers.
+fn compare_counts(rt: &impl Abort, design: &Design, wanted: [u32; 3]) {
+    let all = counts(design);
+    compare(rt, [all.needles, all.trims, all.stops], wanted);
 }
 
 #[test]
@@ -177,14 +227,12 @@ fn a_large_design_is_split_and_cut(rt: HostRuntime) -> Result<(), Fail> {
     let split = refit(rt.alloc(), &design, 50, RefitMode::Split)
         .ok()
         .ok_or("no memory")?;
-    let all = counts(&split);
-    assert_eq!(rt; [all.needles, all.trims, all.stops], [14_993, 0, 3]);
+    compare_counts(&rt, &split, [14_993, 0, 3]);
     let cut = refit(rt.alloc(), &split, 50, RefitMode::Cut)
         .ok()
         .ok_or("no memory")?;
-    let all = counts(&cut);
-    assert_eq!(rt; [all.needles, all.trims, all.stops], [14_993, 1_250, 3]);
-    assert_eq!(rt; cut.label(), b"Rose of Damascus".as_slice());
-    assert_eq!(rt; cut.threads(), [9].as_slice());
+    compare_counts(&rt, &cut, [14_993, 1_250, 3]);
+    compare(&rt, cut.label(), b"Rose of Damascus");
+    compare(&rt, cut.threads(), &[9]);
     Ok(())
 }
