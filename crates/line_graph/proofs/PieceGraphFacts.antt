@@ -1,5 +1,5 @@
 -- Worked values of the graphs of pieces, and of walks that fit them. Costs count steps of at most 10.
-use Rattle.std.proofs.Common.{◌≡◌, ℕ, true, false, List, [], ◌∷◌, None, Some, refl, arith}
+use Rattle.std.proofs.Common.{◌≡◌, ℕ, ◌≤◌, true, false, List, [], ◌∷◌, None, Some, refl, arith}
 use Rattle.line_graph.proofs.Names.{Point, LineValue, Edge, Pass, DrawingValue, degree, odd_junctions, piece_graph, IsFirstLabelled, lines_labelled_from, lines_labelled, pieces_by_label, all_below, all_costs_positive, ends_below, is_below, is_fitting_walk, piece_cost, is_strictly_increasing, walk_cost, block_of_passes, passes}
 use Rattle.line_graph.proofs.WalkFacts.{at}
 
@@ -152,6 +152,9 @@ known_labelled_from = refl
 
 pub known_first_labelled : IsFirstLabelled (0 ∷ 1 ∷ 0 ∷ 1 ∷ 4 ∷ 1 ∷ []) 1 2 3
 known_first_labelled = record { from = omega arith; most = omega arith; has = λ below. refl; rest = refl }
+
+pub known_first_within : (first : ℕ) → IsFirstLabelled (0 ∷ 1 ∷ 0 ∷ 1 ∷ 4 ∷ 1 ∷ []) 1 2 first → (2 ≤ first) × (first ≤ 6)
+known_first_within first is = (is.from, is.most)
 
 -- the lines with each label
 pub known_parts : pieces_by_label (0 ∷ 1 ∷ 0 ∷ 1 ∷ 4 ∷ 1 ∷ []) ≡ (0 ∷ 2 ∷ []) ∷ (1 ∷ 3 ∷ 5 ∷ []) ∷ (4 ∷ []) ∷ []
