@@ -72,7 +72,8 @@ known_counters empty points steps is = (is.last_is, is.points_are, is.steps_are)
 
 -- and keeps its drawing within the limits, without starts and ends
 pub known_maker : (d : DrawingValue) (empty : Bool) (points steps : ℕ) → IsMakerState d empty points steps
-    → (1 ≤ d.step) × (d.step ≤ 2047) × (length d.label ≤ 16) × All (λ byte. byte ≢ 32) d.label × (length d.threads ≤ 255) × All (λ thread. thread < 256) d.threads
+    → (1 ≤ d.step) × (d.step ≤ 2047) × (length d.label ≤ 16) × All (λ byte. byte ≢ 32) d.label
+    × (length d.threads ≤ 255) × All (λ thread. thread < 256) d.threads
     × (1 < length d.threads → Contains (map (λ (l : LineValue). l.block) d.lines) 0)
     × All (λ (l : LineValue). l.block < length d.threads) d.lines × IsNonDecreasing (map (λ (l : LineValue). l.block) d.lines)
     × All (λ (l : LineValue). IsLine l.points) d.lines × (length d.lines ≤ 1024) × (point_count d.lines ≤ 65536)

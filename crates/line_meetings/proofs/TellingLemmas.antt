@@ -50,7 +50,8 @@ told_together gap near tree first second third again none close beside_too touch
     ap told last ∙ three again
     ∙ ap (λ (some : List LineSegment). told (beside_too ++ (flat_map (touches tree) some ++ again))) of_third
     ∙ two (flat_map (touches tree) tree ++ again)
-    ∙ ap (λ (some : List LineSegment). told (close ++ (flat_map (beside gap tree) some ++ (flat_map (touches tree) tree ++ again)))) of_second
+    ∙ ap (λ (some : List LineSegment). told (close ++ (flat_map (beside gap tree) some
+    ++ (flat_map (touches tree) tree ++ again)))) of_second
     ∙ one (flat_map (beside gap tree) near ++ (flat_map (touches tree) tree ++ again))
     ∙ ap (λ (some : List LineSegment). told (none ++ (flat_map (close_to gap near tree) some
     ++ (flat_map (beside gap tree) near ++ (flat_map (touches tree) tree ++ again))))) of_first

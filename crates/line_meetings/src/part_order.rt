@@ -63,7 +63,8 @@ fn indexed_by(
     parts: &[LineSegment],
     order: &[OrderedIndex],
 ) -> Result<Vec<IndexedPart>, Memory>
-    ensures { IfOk result (λ ordered. ordered.items ≡ flat_map (λ o. indexed_at parts.now o.index) order.now) }
+    ensures { IfOk result (λ ordered. ordered.items
+        ≡ flat_map (λ o. indexed_at parts.now o.index) order.now) }
 {
     let mut ordered = Vec::new(alloc);
     for o in order {

@@ -97,7 +97,8 @@ impl<'a> GrowingStore<'a> {
 
     /// Raises the room of a name to this number of bytes, if there is memory and a file may have so many.
     fn make_room(&mut self, name: &str, room: usize)
-        ensures written { (other : List ℕ) → files_of self.new.written other ≡ files_of self.old.written other }
+        ensures written { (other : List ℕ)
+            → files_of self.new.written other ≡ files_of self.old.written other }
         ensures given { self.new.given ≡ self.old.given }
         ensures log { self.new.log ≡ self.old.log }
     {
@@ -108,7 +109,8 @@ impl<'a> GrowingStore<'a> {
 
     fn raise_room(&mut self, name: &str, room: u32) -> Result<(), Memory>
         requires { room ≤ MAX_FILE }
-        ensures written { (other : List ℕ) → files_of self.new.written other ≡ files_of self.old.written other }
+        ensures written { (other : List ℕ)
+            → files_of self.new.written other ≡ files_of self.old.written other }
         ensures given { self.new.given ≡ self.old.given }
         ensures log { self.new.log ≡ self.old.log }
     {
@@ -121,7 +123,8 @@ impl<'a> GrowingStore<'a> {
     fn create_written(&mut self, name: &str) -> Result<(), Failed>
         requires { IsFileName name.now }
         ensures holds { OnOk result (FileHolds (task_store_view self.new).files name.now []) }
-        ensures others { ChangesOnlyFile (task_store_view self.old).files (task_store_view self.new).files name.now }
+        ensures others { ChangesOnlyFile (task_store_view self.old).files
+            (task_store_view self.new).files name.now }
         ensures log { self.new.log ≡ self.old.log }
     {
         self.make_room(name, 0);
@@ -132,9 +135,10 @@ impl<'a> GrowingStore<'a> {
     fn append_written(&mut self, name: &str, bytes: &[u8]) -> Result<(), Failed>
         requires name { IsFileName name.now }
         requires there { IsSome (files_of self.old.written name.now) }
-        ensures added { OnOk result (AppendsToFile (task_store_view self.old).files (task_store_view self.new).files
-            name.now bytes.now) }
-        ensures others { ChangesOnlyFile (task_store_view self.old).files (task_store_view self.new).files name.now }
+        ensures added { OnOk result (AppendsToFile (task_store_view self.old).files
+            (task_store_view self.new).files name.now bytes.now) }
+        ensures others { ChangesOnlyFile (task_store_view self.old).files
+            (task_store_view self.new).files name.now }
         ensures log { self.new.log ≡ self.old.log }
     {
         let room = self.length_written(name).saturating_add(bytes.len());
@@ -146,9 +150,10 @@ impl<'a> GrowingStore<'a> {
     fn append_kept(&mut self, name: &str, bytes: &[u8]) -> Result<(), Failed>
         requires name { IsFileName name.now }
         requires there { IsSome (files_now self.old name.now) }
-        ensures added { OnOk result (AppendsToFile (task_store_view self.old).files (task_store_view self.new).files
-            name.now bytes.now) }
-        ensures others { ChangesOnlyFile (task_store_view self.old).files (task_store_view self.new).files name.now }
+        ensures added { OnOk result (AppendsToFile (task_store_view self.old).files
+            (task_store_view self.new).files name.now bytes.now) }
+        ensures others { ChangesOnlyFile (task_store_view self.old).files
+            (task_store_view self.new).files name.now }
         ensures log { self.new.log ≡ self.old.log }
     {
         match self.keep_given(name) {
@@ -169,7 +174,8 @@ impl<'a> GrowingStore<'a> {
     fn failed(&mut self, name: &str) -> Failed
         requires { IsFileName name.now }
         ensures files { (task_store_view self.new).files ≡ (task_store_view self.old).files }
-        ensures cause { CallFailed (task_store_view self.old) (task_store_view self.new) (write_call name.now) }
+        ensures cause { CallFailed (task_store_view self.old) (task_store_view self.new)
+            (write_call name.now) }
     {
         self.log.note(CallKind::Write, name);
         Failed

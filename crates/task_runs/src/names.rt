@@ -9,7 +9,8 @@ use std::alloc::Global;
 
 /// Returns the names of files, each once.
 pub(crate) fn names_of(alloc: Global, files: &[TaskFile<'_>]) -> Result<Items<String>, Memory>
-    ensures { IfOk result (λ names. ListsFiles (map string_bytes names) (content_in (map file_value files.now))) }
+    ensures { IfOk result (λ names. ListsFiles (map string_bytes names)
+        (content_in (map file_value files.now))) }
 {
     let mut names = Items::new(alloc);
     for file in files {

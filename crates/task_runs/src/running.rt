@@ -77,7 +77,8 @@ fn pack_run(
     out: &GrowingSink,
     err: &GrowingSink,
 ) -> Result<Bytes, Memory>
-    requires { status ≡ Refused → (task_store_view store.now).files ≡ Some (content_in (task_value task.now).files) }
+    requires { status ≡ Refused
+        → (task_store_view store.now).files ≡ Some (content_in (task_value task.now).files) }
     ensures { IfOk result (λ bytes. (names : _) × ListsFiles names (files_now store.now) × (bytes
         ≡ packed_reply (reply_of (task_value task.now) status store.now names out.now err.now))) }
 {
@@ -99,9 +100,10 @@ fn files_left<'a>(
     status: Status,
     store: &'a GrowingStore<'_>,
 ) -> Result<Items<TaskFile<'a>>, Memory>
-    requires { status ≡ Refused → (task_store_view store.now).files ≡ Some (content_in (task_value task.now).files) }
-    ensures { IfOk result (λ files. (names : _) × ListsFiles names (files_now store.now) × (map file_value files
-        ≡ changed_files (task_value task.now).files (files_now store.now) names)) }
+    requires { status ≡ Refused
+        → (task_store_view store.now).files ≡ Some (content_in (task_value task.now).files) }
+    ensures { IfOk result (λ files. (names : _) × ListsFiles names (files_now store.now)
+        × (map file_value files ≡ changed_files (task_value task.now).files (files_now store.now) names)) }
 {
     let names = store.names();
     match status {

@@ -7,7 +7,11 @@ use Rattle.line_meetings.proofs.TellingLemmas.{told_all, told_enough, told_next}
 use Rattle.line_meetings.proofs.finding.put_all_close.Goals as goal
 
 pub loop-p-init : goal.loop-p-init
-loop-p-init c = record { known = none_known c.args.gap c.args.tree.now (get is_same_point_key c.new-known.result) (λ k. rw c.new-known.ensures.empty refl); told = λ rest. refl }
+loop-p-init c = record {
+  known = none_known c.args.gap c.args.tree.now (get is_same_point_key c.new-known.result)
+      (λ k. rw c.new-known.ensures.empty refl);
+  told = λ rest. refl;
+}
 
 pub returns-then-are_enough : goal.returns-then-are_enough
 returns-then-are_enough c = told_enough _ _ _ _ (sym c.are_enough.ensures ∙ c.if-are_enough.true) c.loop-p.invariant.told
