@@ -11,5 +11,7 @@
 #![tactic(auto)]
 
 mod making;
+mod theorems;
 
 pub use making::StitchFormats;
+pub use theorems::{all_labels_and_threads_round_trip, all_written_reads_again};
