@@ -1,3 +1,4 @@
+mod comparisons;
 mod dst_files;
 mod exp_files;
 mod feeding;

@@ -1,3 +1,4 @@
+use super::comparisons::{compare, compare_row};
 use super::feeding::{compare_counts, feed, read_all, written};
 use super::large_designs::{compare_reread, stops};
 use crate::square;
@@ -34,8 +35,8 @@ fn a_square_has_its_539_bytes(rt: HostRuntime) -> Result<(), Fail> {
     let design = square(alloc)?;
     let expected = repeated(alloc, FIELDS, b" ", 512 - 125, &RECORDS)?;
     let file = written(&Dst::new(alloc), alloc, &design)?;
-    assert_eq!(rt; file.as_slice(), expected.as_slice());
-    assert_eq!(rt; file.len(), 539);
+    compare(&rt, file.as_slice(), expected.as_slice());
+    compare(&rt, file.len(), 539);
     Ok(())
 }
 
@@ -50,7 +51,7 @@ fn a_square_reads_as_its_needles_and_a_trim(rt: HostRuntime) -> Result<(), Fail>
     let design = square(alloc)?;
     let file = written(&Dst::new(alloc), alloc, &design)?;
     let loaded = read(&rt, alloc, file.as_slice())?;
-    assert_eq!(rt; loaded.ended, true);
+    compare(&rt, loaded.ended, true);
     let expected = [
         Command::Stitch(at(0, 0)),
         Command::Stitch(at(30, 0)),
@@ -62,21 +63,24 @@ fn a_square_reads_as_its_needles_and_a_trim(rt: HostRuntime) -> Result<(), Fail>
         Command::Trim,
         Command::Jump(at(0, 0)),
     ];
-    assert_eq!(rt; loaded.design.commands(), expected.as_slice());
+    compare(&rt, loaded.design.commands(), expected.as_slice());
     Ok(())
 }
+
+/// Numbers of jumps in a run, and of the commands that they are read as.
+const RUNS: [(u32, usize); 4] = [(2, 4), (3, 6), (4, 7), (7, 10)];
 
 #[test]
 fn the_third_jump_of_a_run_reads_as_a_trim_too(rt: HostRuntime) -> Result<(), Fail> {
     let alloc = rt.alloc();
-    for (jumps, commands) in [(2, 4), (3, 6), (4, 7), (7, 10)] {
+    for (jumps, commands) in &RUNS {
         let mut file = file_of(alloc, &[0, 0, 0x03])?;
-        for _ in 0..jumps {
+        for _ in 0..*jumps {
             file.append(&[0, 0, 0x83])?;
         }
         file.append(&[0, 0, 0x03, 0, 0, 0xF3])?;
         let loaded = read(&rt, alloc, file.as_slice())?;
-        assert_eq!(rt; loaded.design.commands().len(), commands, "{jumps} jumps");
+        compare_row(&rt, *jumps, loaded.design.commands().len(), *commands);
     }
     Ok(())
 }
@@ -86,11 +90,8 @@ fn a_file_without_an_end_is_read(rt: HostRuntime) -> Result<(), Fail> {
     let alloc = rt.alloc();
     let file = file_of(alloc, &[0x00, 0x05, 0x03, 0x00, 0x05])?;
     let loaded = read(&rt, alloc, file.as_slice())?;
-    assert_eq!(rt; loaded.ended, false);
-    assert_eq!(rt;
-        loaded.design.commands(),
-        [Command::Stitch(at(30, 0))].as_slice()
-    );
+    compare(&rt, loaded.ended, false);
+    compare(&rt, loaded.design.commands(), &[Command::Stitch(at(30, 0))]);
     Ok(())
 }
 
@@ -98,19 +99,14 @@ fn a_file_without_an_end_is_read(rt: HostRuntime) -> Result<(), Fail> {
 fn a_file_is_refused_at_its_first_fault(rt: HostRuntime) -> Result<(), Fail> {
     let alloc = rt.alloc();
     let far = file_of(alloc, [[0x05, 0x05, 0x07]; 248].as_flattened())?;
-    for (file, fault) in [
-        (
-            repeated(alloc, b"", b" ", 511, b"")?,
-            ReadFault::Short { at: 511 },
-        ),
-        (far, ReadFault::Range { at: 1253 }),
-        (
-            file_of(alloc, &[0x00, 0x00, 0x43])?,
-            ReadFault::Sequin { at: 512 },
-        ),
-    ] {
-        assert_eq!(rt; read(&rt, alloc, file.as_slice()).err(), Some(fault));
-    }
+    let fault = read(&rt, alloc, far.as_slice()).err();
+    compare(&rt, fault, Some(ReadFault::Range { at: 1253 }));
+    let short = repeated(alloc, b"", b" ", 511, b"")?;
+    let fault = read(&rt, alloc, short.as_slice()).err();
+    compare(&rt, fault, Some(ReadFault::Short { at: 511 }));
+    let sequin = file_of(alloc, &[0x00, 0x00, 0x43])?;
+    let fault = read(&rt, alloc, sequin.as_slice()).err();
+    compare(&rt, fault, Some(ReadFault::Sequin { at: 512 }));
     Ok(())
 }
 
@@ -120,7 +116,7 @@ fn a_command_is_told_once_its_record_is_whole(rt: HostRuntime) -> Result<(), Fai
     let header = file_of(rt.alloc(), &[])?;
     for byte in header.as_slice() {
         feed(&rt, &mut format, &[*byte])?;
-        assert_eq!(rt; format.so_far().len(), 0);
+        compare(&rt, format.so_far().len(), 0);
     }
     let bytes = [0, 0, 0x03, 0, 0x05, 0x03, 0, 0, 0x43, 0, 0x50, 0x03];
     let counts = [0, 0, 1, 1, 1, 2, 2, 2, 2, 2, 2, 2];
@@ -132,41 +128,45 @@ fn a_command_is_told_once_its_record_is_whole(rt: HostRuntime) -> Result<(), Fai
 fn a_design_of_a_thousand_stops_is_refused_at_the_last(rt: HostRuntime) -> Result<(), Fail> {
     let alloc = rt.alloc();
     let design = stops(alloc, 1000)?;
-    assert_eq!(rt;
+    compare(
+        &rt,
         Dst::new(alloc).encode(alloc, &design).err(),
-        Some(WriteFault::TooManyStops { number: 1000 })
+        Some(WriteFault::TooManyStops { number: 1000 }),
     );
     Ok(())
 }
 
 #[test]
 fn the_greatest_moves_have_their_one_spelling(rt: HostRuntime) {
-    assert_eq!(rt; decode_move([0x05, 0x05, 0x07]), at(121, 0));
-    assert_eq!(rt; decode_move([0x50, 0x50, 0x13]), at(0, 121));
-    assert_eq!(rt; decode_move([0x82, 0x41, 0x83]), at(2, 2));
-    assert_eq!(rt; encode_move(121, 0), [0x05, 0x05, 0x07]);
-    assert_eq!(rt; encode_move(0, 121), [0x50, 0x50, 0x13]);
-    assert_eq!(rt; encode_move(-121, 0), [0x0A, 0x0A, 0x0B]);
-    assert_eq!(rt; encode_move(0, -121), [0xA0, 0xA0, 0x23]);
-    assert_eq!(rt; encode_move(100, 0), [0x09, 0x04, 0x07]);
+    compare(&rt, decode_move([0x05, 0x05, 0x07]), at(121, 0));
+    compare(&rt, decode_move([0x50, 0x50, 0x13]), at(0, 121));
+    compare(&rt, decode_move([0x82, 0x41, 0x83]), at(2, 2));
+    compare(&rt, encode_move(121, 0), [0x05, 0x05, 0x07]);
+    compare(&rt, encode_move(0, 121), [0x50, 0x50, 0x13]);
+    compare(&rt, encode_move(-121, 0), [0x0A, 0x0A, 0x0B]);
+    compare(&rt, encode_move(0, -121), [0xA0, 0xA0, 0x23]);
+    compare(&rt, encode_move(100, 0), [0x09, 0x04, 0x07]);
 }
+
+/// Names of files, and which of two formats with the ending of DST they find.
+const NAMES: [(&str, Option<usize>); 8] = [
+    ("sq.DST", Some(0)),
+    ("a.b.dst", Some(0)),
+    (".dst", Some(0)),
+    ("dst", None),
+    ("a.", None),
+    ("a.jef", None),
+    ("a.dst.b", None),
+    ("", None),
+];
 
 #[test]
 fn a_name_finds_the_format_of_its_last_ending(rt: HostRuntime) -> Result<(), Fail> {
     let mut formats: Vec<Box<dyn Format>> = Vec::new(rt.alloc());
     formats.push(Box::new(rt.alloc(), Dst::new(rt.alloc()))?)?;
     formats.push(Box::new(rt.alloc(), Dst::new(rt.alloc()))?)?;
-    for (name, found) in [
-        ("sq.DST", Some(0)),
-        ("a.b.dst", Some(0)),
-        (".dst", Some(0)),
-        ("dst", None),
-        ("a.", None),
-        ("a.jef", None),
-        ("a.dst.b", None),
-        ("", None),
-    ] {
-        assert_eq!(rt; find(&formats, name), found, "{name}");
+    for (name, found) in &NAMES {
+        compare_row(&rt, *name, find(&formats, name), *found);
     }
     Ok(())
 }

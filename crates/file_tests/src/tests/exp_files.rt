@@ -1,3 +1,4 @@
+use super::comparisons::{compare, compare_row};
 use super::feeding::{compare_counts, read_all, written};
 use super::large_designs::compare_reread;
 use crate::square;
@@ -34,7 +35,7 @@ fn reads_as(
     commands: &[Command],
 ) -> Result<Loaded, ReadFault> {
     let loaded = read(rt, alloc, file)?;
-    assert_eq!(rt; loaded.design.commands(), commands);
+    compare(rt, loaded.design.commands(), commands);
     Ok(loaded)
 }
 
@@ -43,9 +44,9 @@ fn a_square_has_its_14_bytes_and_reads_again(rt: HostRuntime) -> Result<(), Fail
     let alloc = rt.alloc();
     let design = square(alloc)?;
     let file = written(&Exp::new(alloc), alloc, &design)?;
-    assert_eq!(rt; file.as_slice(), SQUARE.as_slice());
+    compare(&rt, file.as_slice(), SQUARE.as_slice());
     let loaded = reads_as(&rt, alloc, &SQUARE, design.commands())?;
-    assert_eq!(rt; loaded.ended, true);
+    compare(&rt, loaded.ended, true);
     Ok(())
 }
 
@@ -74,7 +75,7 @@ fn a_file_has_ended_where_no_byte_is_left_over(rt: HostRuntime) -> Result<(), Fa
     for length in 0..SQUARE.len() + 1 {
         let loaded = read(&rt, alloc, &SQUARE[..length])?;
         let whole = length % 2 == 0 && length != 12;
-        assert_eq!(rt; loaded.ended, whole, "{length} bytes");
+        compare_row(&rt, length, loaded.ended, whole);
     }
     Ok(())
 }
@@ -86,24 +87,24 @@ fn minus_128_is_read_and_never_written(rt: HostRuntime) -> Result<(), Fail> {
     let expected = [stitch(0, 0), stitch(-5, 128)];
     let loaded = reads_as(&rt, alloc, &file, &expected)?;
     let fault = Exp::new(alloc).encode(alloc, &loaded.design).err();
-    assert_eq!(rt; fault, Some(WriteFault::StitchTooLong { number: 2 }));
+    compare(&rt, fault, Some(WriteFault::StitchTooLong { number: 2 }));
     let left = [stitch(0, 0), stitch(-127, 0)];
     let design = design_of(alloc, &left)?;
     let again = written(&Exp::new(alloc), alloc, &design)?;
-    assert_eq!(rt; again.as_slice(), [0x00, 0x00, 0x81, 0x00].as_slice());
+    compare(&rt, again.as_slice(), &[0x00, 0x00, 0x81, 0x00]);
     Ok(())
 }
+
+/// Bytes after 80 that mean nothing.
+const UNKNOWN: [u8; 6] = [0x00, 0x03, 0x05, 0x08, 0x81, 0xFF];
 
 #[test]
 fn an_unknown_control_byte_is_refused_at_its_unit(rt: HostRuntime) -> Result<(), Fail> {
     let alloc = rt.alloc();
-    for control in [0x00, 0x03, 0x05, 0x08, 0x81, 0xFF] {
-        let file = [0x00, 0x00, 0x80, control, 0x00, 0x00];
-        assert_eq!(rt;
-            read(&rt, alloc, &file).err(),
-            Some(ReadFault::Control { at: 2 }),
-            "{control}"
-        );
+    for control in &UNKNOWN {
+        let file = [0x00, 0x00, 0x80, *control, 0x00, 0x00];
+        let fault = read(&rt, alloc, &file).err();
+        compare_row(&rt, *control, fault, Some(ReadFault::Control { at: 2 }));
     }
     Ok(())
 }

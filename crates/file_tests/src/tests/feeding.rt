@@ -1,5 +1,6 @@
 ghost use Rattle.std.specs.Prelude.{◌≡◌, IsOk, false};
 
+use super::comparisons::{compare, compare_row};
 use design_model::{Bytes, Command, Design, MAX_FILE, Memory};
 use format_traits::{Format, Loaded, ReadFault};
 use std::alloc::Global;
@@ -23,11 +24,7 @@ pub fn compare_parts(
     fed: &Result<Loaded, ReadFault>,
     whole: &Result<Loaded, ReadFault>,
 ) {
-    assert_eq!(rt;
-        fed.as_ref().map(parts),
-        whole.as_ref().map(parts),
-        "pieces of {size}"
-    );
+    compare_row(rt, size, fed.as_ref().map(parts), whole.as_ref().map(parts));
 }
 
 /// Returns the label, the threads, the commands and the end of a loaded design.
@@ -49,13 +46,13 @@ pub fn read_all<F: Format>(
     bytes: &[u8],
 ) -> Result<Loaded, ReadFault> {
     let whole = format.decode(alloc, bytes);
-    for size in SIZES {
-        assert!(rt; size > 0);
-        for piece in bytes.chunks(size) {
+    for size in &SIZES {
+        assert!(rt; *size > 0);
+        for piece in bytes.chunks(*size) {
             feed(rt, format, piece)?;
         }
-        assert_eq!(rt; format.taken(), bytes.len() as u64);
-        compare_parts(rt, size, &format.finish(), &whole);
+        compare(rt, format.taken(), bytes.len() as u64);
+        compare_parts(rt, *size, &format.finish(), &whole);
     }
     whole
 }
@@ -70,13 +67,13 @@ pub fn compare_counts<F: Format>(
     taken: u64,
     fault: ReadFault,
 ) -> Result<(), Memory> {
-    assert_eq!(rt; bytes.len(), counts.len());
+    compare(rt, bytes.len(), counts.len());
     for (byte, count) in bytes.iter().zip(counts.iter()) {
         feed(rt, format, &[*byte])?;
-        assert_eq!(rt; format.so_far().len(), *count, "{} bytes", format.taken());
+        compare_row(rt, format.taken(), format.so_far().len(), *count);
     }
-    assert_eq!(rt; format.taken(), taken);
-    assert_eq!(rt; format.finish().err(), Some(fault));
+    compare(rt, format.taken(), taken);
+    compare(rt, format.finish().err(), Some(fault));
     Ok(())
 }
 

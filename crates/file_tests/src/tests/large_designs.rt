@@ -1,3 +1,4 @@
+use super::comparisons::compare;
 use super::feeding::{read_all, written};
 use design_model::{Command, Design, ModelFault, Point, counts};
 use format_traits::{Format, Loaded};
@@ -21,11 +22,11 @@ pub fn floating(alloc: Global, y: i32) -> Result<Design, ModelFault> {
 
 /// Compares what was read of a file of the large design with what the file keeps of it.
 pub fn compare_large(rt: &impl Abort, loaded: &Loaded, label: &[u8], threads: &[u8]) {
-    assert_eq!(rt; loaded.ended, true);
-    assert_eq!(rt; loaded.design.label(), label);
-    assert_eq!(rt; loaded.design.threads(), threads);
+    compare(rt, loaded.ended, true);
+    compare(rt, loaded.design.label(), label);
+    compare(rt, loaded.design.threads(), threads);
     let all = counts(&loaded.design);
-    assert_eq!(rt; [all.needles, all.trims, all.stops], [5_000, 2_497, 3]);
+    compare(rt, [all.needles, all.trims, all.stops], [5_000, 2_497, 3]);
 }
 
 /// Writes the large design, reads the file, and compares what was read with what the file keeps.

@@ -1,5 +1,6 @@
 ghost use Rattle.std.specs.Prelude.{◌<◌};
 
+use super::comparisons::{compare, compare_row};
 use super::lists::{HEAD, SQUARE};
 use design_model::MAX_FILE;
 use format_traits::Format;
@@ -38,6 +39,9 @@ const FED: [(&str, &str, u32, &str, u64, usize, Option<ReadFault>); 16] = [
     fed!(HEAD, "needle 0 0\nneed" => 46, 1, Some(Short { at: 46 })),
 ];
 
+/// The sizes of the chunks that each text is fed in.
+const PIECES: [usize; 6] = [1, 2, 3, 5, 33, 1_000];
+
 /// Feeds a text in chunks of one size, and returns the number of commands after the last of them.
 fn feed_pieces(list: &mut List, text: &[u8], size: usize) -> Result<usize, Fail>
     requires { 0 < size }
@@ -58,33 +62,45 @@ fn feed_pieces(list: &mut List, text: &[u8], size: usize) -> Result<usize, Fail>
 fn a_text_may_be_fed_in_pieces_of_any_size(rt: HostRuntime) -> Result<(), Fail> {
     let alloc = rt.alloc();
     let mut list = List::new(alloc);
-    for (first, lines, times, last, size, count, fault) in FED {
+    for (first, lines, times, last, size, count, fault) in &FED {
         let (first, lines, last) = (first.as_bytes(), lines.as_bytes(), last.as_bytes());
-        let text = repeated(alloc, first, lines, times, last)?;
-        for piece in [1, 2, 3, 5, 33, 1_000] {
-            let found = feed_pieces(&mut list, text.as_slice(), piece)?;
-            assert_eq!(rt; (found, list.taken()), (count, size), "{lines:?}");
-            assert_eq!(rt; list.finish().err(), fault, "{lines:?}");
-            assert_eq!(rt; list.taken(), 0, "{lines:?}");
+        let text = repeated(alloc, first, lines, *times, last)?;
+        for piece in &PIECES {
+            let found = feed_pieces(&mut list, text.as_slice(), *piece)?;
+            compare_row(&rt, lines, (found, list.taken()), (*count, *size));
+            compare_row(&rt, lines, list.finish().err(), *fault);
+            compare_row(&rt, lines, list.taken(), 0);
         }
     }
     Ok(())
 }
 
+/// Numbers of the first bytes of the square's list, and of the commands in them.
+const PREFIXES: [(usize, usize); 12] = [
+    (31, 0),
+    (41, 0),
+    (42, 1),
+    (53, 1),
+    (54, 2),
+    (67, 3),
+    (78, 3),
+    (79, 4),
+    (90, 5),
+    (94, 5),
+    (95, 6),
+    (99, 6),
+];
+
 #[test]
 fn commands_are_there_once_their_lines_have_ended(rt: HostRuntime) -> Result<(), Fail> {
     let alloc = rt.alloc();
     let mut list = List::new(alloc);
-    let sizes = [31, 41, 42, 53, 54, 67, 78, 79, 90, 94, 95, 99];
-    let counts = [0, 0, 1, 1, 2, 3, 3, 4, 5, 5, 6, 6];
-    for (size, count) in sizes.into_iter().zip(counts) {
-        let text = SQUARE.as_bytes().get(..size).ok_or("a short square")?;
+    for (size, count) in &PREFIXES {
+        let text = SQUARE.as_bytes().get(..*size).ok_or("a short square")?;
         list.begin();
-        assert_eq!(rt; feed_pieces(&mut list, text, 7)?, count, "{size}");
+        compare_row(&rt, *size, feed_pieces(&mut list, text, 7)?, *count);
     }
-    assert_eq!(rt;
-        list.finish().ok().ok_or("not read")?.design.threads(),
-        [5].as_slice()
-    );
+    let loaded = list.finish().ok().ok_or("not read")?;
+    compare(&rt, loaded.design.threads(), &[5]);
     Ok(())
 }

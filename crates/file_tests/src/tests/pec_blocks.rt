@@ -1,5 +1,6 @@
 ghost use Rattle.std.specs.Prelude.{◌≡◌, IsOk, false};
 
+use super::comparisons::{compare, compare_row};
 use super::feeding::{SIZES, compare_parts};
 use super::large_designs::{compare_large, floating, stops};
 use design_model::{Bytes, Command, MAX_FILE, Memory, Point};
@@ -55,13 +56,13 @@ fn read(rt: &impl Abort, alloc: Global, bytes: &[u8], at: u32) -> Result<Loaded,
     let whole = read_block(alloc, bytes, at as u64);
     let mut reader = Counted::new(alloc);
     let (_, block) = bytes.split_at_checked(at as usize).unwrap_or((bytes, &[]));
-    for size in SIZES {
-        assert!(rt; size > 0);
+    for size in &SIZES {
+        assert!(rt; *size > 0);
         reader.begin(at);
-        for piece in block.chunks(size) {
+        for piece in block.chunks(*size) {
             reader.feed(rt, piece)?;
         }
-        compare_parts(rt, size, &reader.finish(), &whole);
+        compare_parts(rt, *size, &reader.finish(), &whole);
     }
     whole
 }
@@ -96,14 +97,14 @@ fn a_design_of_three_blocks_is_written(rt: HostRuntime) -> Result<(), Fail> {
     let design = design_of(alloc, &commands)?;
     let block = write_block(alloc, &design)?;
     let bytes = block.as_slice();
-    assert_eq!(rt; bytes.len(), 528 + 19 + 4 * 228);
-    assert_eq!(rt; &bytes[48..53], [2, 1, 2, 3, b' '].as_slice());
-    assert_eq!(rt; &bytes[514..517], [0x23, 0, 0].as_slice());
+    compare(&rt, bytes.len(), 528 + 19 + 4 * 228);
+    compare(&rt, bytes.get(48..53), Some([2, 1, 2, 3, b' '].as_slice()));
+    compare(&rt, bytes.get(514..517), Some([0x23, 0, 0].as_slice()));
     let records = [
         0x00, 0x00, 0x3E, 0x41, 0x80, 0x3F, 0x80, 0x00, 0xFE, 0xB0, 0x02, 0x00, 0x00, 0xFE, 0xB0,
         0x01, 0x00, 0x00, 0xFF,
     ];
-    assert_eq!(rt; &bytes[528..547], records.as_slice());
+    compare(&rt, bytes.get(528..547), Some(records.as_slice()));
     Ok(())
 }
 
@@ -112,54 +113,64 @@ fn a_block_is_read_at_its_offset(rt: HostRuntime) -> Result<(), Fail> {
     let alloc = rt.alloc();
     let file = file_of(alloc, 1, &[0x00, 0x00, 0x81, 0xF4, 0x80, 0x00, 0xFF])?;
     let loaded = read(&rt, alloc, file.as_slice(), 1)?;
-    assert_eq!(rt; loaded.ended, true);
-    assert_eq!(rt; loaded.design.commands(), [at(0, 0), at(500, 0)].as_slice());
-    assert_eq!(rt; loaded.design.threads().len(), 33);
-    assert_eq!(rt; loaded.design.label(), [].as_slice());
+    compare(&rt, loaded.ended, true);
+    compare(&rt, loaded.design.commands(), &[at(0, 0), at(500, 0)]);
+    compare(&rt, loaded.design.threads().len(), 33);
+    compare(&rt, loaded.design.label(), &[]);
     Ok(())
 }
+
+/// Offsets in a block of three bytes of records, and the refusal of what begins there.
+const STARTS: [(u64, Option<ReadFault>); 3] = [
+    (3, None),
+    (4, Some(Short { at: 531 })),
+    (u64::MAX, Some(Short { at: 531 })),
+];
 
 #[test]
 fn a_block_is_refused_at_its_first_fault(rt: HostRuntime) -> Result<(), Fail> {
     let alloc = rt.alloc();
     let bytes = block_of(alloc, &[0x87, 0xFF, 0x00])?;
-    let short = Some(Short { at: 531 });
-    for (start, fault) in [(3, None), (4, short), (u64::MAX, short)] {
-        let found = read_block(alloc, bytes.as_slice(), start).err();
-        assert_eq!(rt; found, fault, "{start}");
+    for (start, fault) in &STARTS {
+        let found = read_block(alloc, bytes.as_slice(), *start).err();
+        compare_row(&rt, *start, found, *fault);
     }
     let far = block_of(alloc, [[0x87, 0xFF, 0x00]; 15].as_flattened())?;
     let fault = read(&rt, alloc, far.as_slice(), 0).err();
-    assert_eq!(rt; fault, Some(Range { at: 528 + 14 * 3 }));
+    compare(&rt, fault, Some(Range { at: 528 + 14 * 3 }));
+    Ok(())
+}
+
+/// The offsets that blocks begin at.
+const OFFSETS: [u32; 3] = [0, 8, 22];
+
+/// Compares what is read of a block at an offset with the given commands and end.
+fn compare_read(
+    rt: &impl Abort,
+    alloc: Global,
+    start: u32,
+    records: &[u8],
+    wanted: (&[Command], bool),
+) -> Result<(), Fail> {
+    let file = file_of(alloc, start, records)?;
+    let loaded = read(rt, alloc, file.as_slice(), start)?;
+    compare_row(rt, start, (loaded.design.commands(), loaded.ended), wanted);
     Ok(())
 }
 
 #[test]
 fn a_block_is_read_and_refused_wherever_it_begins(rt: HostRuntime) -> Result<(), Fail> {
     let alloc = rt.alloc();
-    for start in [0, 8, 22] {
-        for (records, commands, ended) in [
-            ([0x00, 0x00, 0x81].as_slice(), [at(0, 0)].as_slice(), false),
-            (
-                &[0x00, 0x00, 0xFE, 0xB0, 0x02, 0x81, 0xF4, 0x80, 0x00, 0xFF],
-                &[at(0, 0), Command::Stop, at(500, 0)],
-                true,
-            ),
-        ] {
-            let file = file_of(alloc, start, records)?;
-            let loaded = read(&rt, alloc, file.as_slice(), start)?;
-            assert_eq!(rt; loaded.design.commands(), commands);
-            assert_eq!(rt; loaded.ended, ended);
-        }
-        let front = repeated(alloc, b"", b"\x07", start, b"")?;
+    let bytes = [0x00, 0x00, 0xFE, 0xB0, 0x02, 0x81, 0xF4, 0x80, 0x00, 0xFF];
+    let commands = [at(0, 0), Command::Stop, at(500, 0)];
+    for start in &OFFSETS {
+        compare_read(&rt, alloc, *start, &bytes[..3], (&commands[..1], false))?;
+        compare_read(&rt, alloc, *start, &bytes, (commands.as_slice(), true))?;
+        let front = repeated(alloc, b"", b"\x07", *start, b"")?;
         let short = repeated(alloc, front.as_slice(), b" ", 527, b"")?;
-        let fault = read(&rt, alloc, short.as_slice(), start).err();
-        assert_eq!(rt;
-            fault,
-            Some(Short {
-                at: start as u64 + 527
-            })
-        );
+        let fault = read(&rt, alloc, short.as_slice(), *start).err();
+        let at = *start as u64 + 527;
+        compare_row(&rt, *start, fault, Some(Short { at }));
     }
     Ok(())
 }
@@ -168,15 +179,15 @@ fn a_block_is_read_and_refused_wherever_it_begins(rt: HostRuntime) -> Result<(),
 fn a_point_out_of_range_leaves_the_commands_before_it(rt: HostRuntime) -> Result<(), Fail> {
     let alloc = rt.alloc();
     let far = block_of(alloc, [[0x87, 0xFF, 0x00]; 15].as_flattened())?;
-    for start in [0, 8, 22] {
+    for start in &OFFSETS {
         let mut reader = Counted::new(alloc);
-        reader.begin(start);
-        for piece in [far.as_slice(), &[0x00, 0x00, 0xFF]] {
-            reader.feed(&rt, piece)?;
-            assert_eq!(rt; reader.reader.so_far().len(), 14);
-        }
-        let at = start as u64 + 570;
-        assert_eq!(rt; reader.finish().err(), Some(Range { at }));
+        reader.begin(*start);
+        reader.feed(&rt, far.as_slice())?;
+        compare_row(&rt, *start, reader.reader.so_far().len(), 14);
+        reader.feed(&rt, &[0x00, 0x00, 0xFF])?;
+        compare_row(&rt, *start, reader.reader.so_far().len(), 14);
+        let at = *start as u64 + 570;
+        compare_row(&rt, *start, reader.finish().err(), Some(Range { at }));
     }
     Ok(())
 }
@@ -185,9 +196,10 @@ fn a_point_out_of_range_leaves_the_commands_before_it(rt: HostRuntime) -> Result
 fn a_design_of_255_stops_is_refused_at_the_last(rt: HostRuntime) -> Result<(), Fail> {
     let alloc = rt.alloc();
     let design = stops(alloc, 255)?;
-    assert_eq!(rt;
+    compare(
+        &rt,
         write_block(alloc, &design).err(),
-        Some(WriteFault::TooManyStops { number: 255 })
+        Some(WriteFault::TooManyStops { number: 255 }),
     );
     Ok(())
 }

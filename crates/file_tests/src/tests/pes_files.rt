@@ -1,3 +1,4 @@
+use super::comparisons::{compare, compare_row};
 use super::feeding::{feed, read_all, written};
 use super::large_designs::{compare_large, floating};
 use crate::square;
@@ -42,30 +43,33 @@ fn compare_square(
     parts: &[(usize, &[u8])],
     loaded: &Loaded,
 ) {
-    assert_eq!(rt; file.len(), length);
+    compare(rt, file.len(), length);
     for (offset, part) in parts {
         let (_, rest) = file.split_at_checked(*offset).unwrap_or((file, &[]));
-        assert!(rt; rest.starts_with(part), "at {offset}");
+        compare_row(rt, *offset, rest.starts_with(part), true);
     }
-    assert_eq!(rt; loaded.ended, true);
-    assert_eq!(rt; loaded.design.threads(), [5].as_slice());
+    compare(rt, loaded.ended, true);
+    compare(rt, loaded.design.threads(), &[5]);
 }
+
+const PEC_PARTS: [(usize, &[u8]); 5] = [
+    (0, b"#PEC0001LA:"),
+    (56, &[0, 5, b' ']),
+    (522, &[0x1F, 0, 0]),
+    (528, &[0x1E, 0, 0x1E, 0]),
+    (536, &RECORDS),
+];
+
+const PES_PARTS: [(usize, &[u8]); 2] = [(0, b"#PES0001\x16\x00\x00\x00"), (550, &RECORDS)];
 
 #[test]
 fn a_square_is_written_and_read_as_pec(rt: HostRuntime) -> Result<(), Fail> {
     let alloc = rt.alloc();
     let design = square_in_5(alloc)?;
     let file = written(&Pec::new(alloc), alloc, &design)?;
-    let parts: [(usize, &[u8]); 5] = [
-        (0, b"#PEC0001LA:"),
-        (56, &[0, 5, b' ']),
-        (522, &[0x1F, 0, 0]),
-        (528, &[0x1E, 0, 0x1E, 0]),
-        (536, &RECORDS),
-    ];
     let loaded = read_pec(&rt, alloc, file.as_slice())?;
-    compare_square(&rt, file.as_slice(), 1_007, &parts, &loaded);
-    assert_eq!(rt; loaded.design.commands().len(), 7);
+    compare_square(&rt, file.as_slice(), 1_007, &PEC_PARTS, &loaded);
+    compare(&rt, loaded.design.commands().len(), 7);
     Ok(())
 }
 
@@ -74,29 +78,31 @@ fn a_square_is_written_and_read_as_pes(rt: HostRuntime) -> Result<(), Fail> {
     let alloc = rt.alloc();
     let design = square_in_5(alloc)?;
     let file = written(&Pes::new(alloc), alloc, &design)?;
-    let parts: [(usize, &[u8]); 2] = [(0, b"#PES0001\x16\x00\x00\x00"), (550, &RECORDS)];
     let loaded = read_pes(&rt, alloc, file.as_slice())?;
-    compare_square(&rt, file.as_slice(), 1_021, &parts, &loaded);
+    compare_square(&rt, file.as_slice(), 1_021, &PES_PARTS, &loaded);
     Ok(())
 }
+
+const NO_PES: [(&[u8], ReadFault); 4] = [
+    (b"#PAC0001", Signature { at: 0 }),
+    (b"#PE", Signature { at: 0 }),
+    (b"#PES0001", Short { at: 8 }),
+    (b"#PES0001\xFF\xFF\xFF\xFF", Short { at: 12 }),
+];
+
+const NO_PEC: [(&[u8], ReadFault); 2] = [
+    (b"#PAC0001", Signature { at: 0 }),
+    (b"#PEC0001", Short { at: 8 }),
+];
 
 #[test]
 fn files_are_refused_by_signature_and_length(rt: HostRuntime) -> Result<(), Fail> {
     let alloc = rt.alloc();
-    let cases: [(&[u8], ReadFault); 4] = [
-        (b"#PAC0001", Signature { at: 0 }),
-        (b"#PE", Signature { at: 0 }),
-        (b"#PES0001", Short { at: 8 }),
-        (b"#PES0001\xFF\xFF\xFF\xFF", Short { at: 12 }),
-    ];
-    for (bytes, fault) in cases {
-        assert_eq!(rt; read_pes(&rt, alloc, bytes).err(), Some(fault), "{bytes:?}");
+    for (bytes, fault) in &NO_PES {
+        compare_row(&rt, *bytes, read_pes(&rt, alloc, bytes).err(), Some(*fault));
     }
-    for (bytes, fault) in [
-        (b"#PAC0001", Signature { at: 0 }),
-        (b"#PEC0001", Short { at: 8 }),
-    ] {
-        assert_eq!(rt; read_pec(&rt, alloc, bytes).err(), Some(fault), "{bytes:?}");
+    for (bytes, fault) in &NO_PEC {
+        compare_row(&rt, *bytes, read_pec(&rt, alloc, bytes).err(), Some(*fault));
     }
     Ok(())
 }
@@ -110,25 +116,28 @@ fn file_of(alloc: Global, front: &[u8], filler: u32, records: &[u8]) -> Result<B
 /// A design that leaves its range by the last of these records.
 const FAR: [[u8; 3]; 15] = [[0x87, 0xFF, 0x00]; 15];
 
+/// Fronts of files, the filler after each, and the offset of the point out of range.
+const FRONTS: [(&[u8], u32, u64); 2] = [
+    (b"#PES0001\x16\x00\x00\x00", 10, 592),
+    (b"#PES0001\x58\x02\x00\x00", 588, 1_170),
+];
+
 #[test]
 fn a_block_is_read_and_refused_wherever_it_begins(rt: HostRuntime) -> Result<(), Fail> {
     let alloc = rt.alloc();
     let mut expected = square(alloc)?;
     expected.push(Command::Jump(Point { x: 0, y: 0 }))?;
-    for (front, filler, range) in [
-        (b"#PES0001\x16\x00\x00\x00".as_slice(), 10, 592),
-        (b"#PES0001\x58\x02\x00\x00".as_slice(), 588, 1_170),
-    ] {
-        let sound = file_of(alloc, front, filler, &RECORDS)?;
+    for (front, filler, range) in &FRONTS {
+        let sound = file_of(alloc, front, *filler, &RECORDS)?;
         let loaded = read_pes(&rt, alloc, sound.as_slice())?;
-        assert_eq!(rt; loaded.design.commands(), expected.commands());
-        let faulty = file_of(alloc, front, filler, FAR.as_flattened())?;
+        compare(&rt, loaded.design.commands(), expected.commands());
+        let faulty = file_of(alloc, front, *filler, FAR.as_flattened())?;
         let fault = read_pes(&rt, alloc, faulty.as_slice()).err();
-        assert_eq!(rt; fault, Some(ReadFault::Range { at: range }));
+        compare(&rt, fault, Some(ReadFault::Range { at: *range }));
     }
     let cut = file_of(alloc, b"#PES0001\xE8\x03\x00\x00", 10, &RECORDS)?;
     let fault = read_pes(&rt, alloc, cut.as_slice()).err();
-    assert_eq!(rt; fault, Some(Short { at: 565 }));
+    compare(&rt, fault, Some(Short { at: 565 }));
     Ok(())
 }
 
@@ -137,11 +146,10 @@ fn a_point_out_of_range_leaves_the_commands_before_it(rt: HostRuntime) -> Result
     let front = b"#PES0001\x16\x00\x00\x00";
     let file = file_of(rt.alloc(), front, 10, FAR.as_flattened())?;
     let mut format = Pes::new(rt.alloc());
-    for (piece, taken) in [(file.as_slice(), 595), (&RECORDS, 610)] {
-        feed(&rt, &mut format, piece)?;
-        assert_eq!(rt; format.taken(), taken);
-        assert_eq!(rt; format.so_far().len(), 14);
-    }
+    feed(&rt, &mut format, file.as_slice())?;
+    compare(&rt, (format.taken(), format.so_far().len()), (595, 14));
+    feed(&rt, &mut format, &RECORDS)?;
+    compare(&rt, (format.taken(), format.so_far().len()), (610, 14));
     Ok(())
 }
 
@@ -151,10 +159,24 @@ fn a_block_may_begin_in_the_front_of_its_file(rt: HostRuntime) -> Result<(), Fai
     let front = b"#PES0001\x00\x00\x00\x00";
     let file = repeated(alloc, front, b" ", 516, &[0x00, 0x00, 0xFF])?;
     let loaded = read_pes(&rt, alloc, file.as_slice())?;
-    assert_eq!(rt; loaded.design.commands(), [at(0, 0)].as_slice());
-    assert_eq!(rt; loaded.design.threads(), [32; 33].as_slice());
-    assert_eq!(rt; loaded.design.label(), [].as_slice());
-    assert_eq!(rt; loaded.ended, true);
+    compare(&rt, loaded.design.commands(), &[at(0, 0)]);
+    compare(&rt, loaded.design.threads(), &[32; 33]);
+    compare(&rt, loaded.design.label(), &[]);
+    compare(&rt, loaded.ended, true);
+    Ok(())
+}
+
+/// Compares what is read of a PES file with what the file keeps of the large design.
+fn compare_pes(rt: &impl Abort, alloc: Global, file: &[u8]) -> Result<(), ReadFault> {
+    let loaded = read_pes(rt, alloc, file)?;
+    compare_large(rt, &loaded, b"Rose of Damascus", &[9, 200, 64, 4]);
+    Ok(())
+}
+
+/// Compares what is read of a PEC file with what the file keeps of the large design.
+fn compare_pec(rt: &impl Abort, alloc: Global, file: &[u8]) -> Result<(), ReadFault> {
+    let loaded = read_pec(rt, alloc, file)?;
+    compare_large(rt, &loaded, b"Rose of Damascus", &[9, 200, 64, 4]);
     Ok(())
 }
 
@@ -167,13 +189,9 @@ fn a_large_design_reads_again_at_any_offset(rt: HostRuntime) -> Result<(), Fail>
     let block = pec.as_slice().get(8..).ok_or("no block")?;
     let moved = repeated(alloc, b"#PES0060\x04\x03\x00\x00", b"\xFF", 760, block)?;
     let other = repeated(alloc, b"#PEC____", b"", 0, block)?;
-    for loaded in [
-        read_pes(&rt, alloc, pes.as_slice())?,
-        read_pec(&rt, alloc, pec.as_slice())?,
-        read_pes(&rt, alloc, moved.as_slice())?,
-        read_pec(&rt, alloc, other.as_slice())?,
-    ] {
-        compare_large(&rt, &loaded, b"Rose of Damascus", &[9, 200, 64, 4]);
-    }
+    compare_pes(&rt, alloc, pes.as_slice())?;
+    compare_pes(&rt, alloc, moved.as_slice())?;
+    compare_pec(&rt, alloc, pec.as_slice())?;
+    compare_pec(&rt, alloc, other.as_slice())?;
     Ok(())
 }
