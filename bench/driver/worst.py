@@ -17,6 +17,7 @@ STEP = 121
 COMMANDS = {
     "look": ("drawing", ["look", "worst.rw"]),
     "look 10": ("drawing", ["look", "worst.rw", "10"]),
+    "look 20": ("drawing", ["look", "worst.rw", "20"]),
     "snap": ("drawing", ["snap", "2", "worst.rw", "written.rw"]),
     "cross": ("drawing", ["cross", "worst.rw", "written.rw"]),
     "space": ("drawing", ["space", "worst.rw", "written.rw"]),
@@ -39,6 +40,20 @@ def diagonals(width, height):
     for i in range(26_000):
         points += [(i - 29_000, -3_000), (i - 29_000 + width, height - 3_000)]
     return [points]
+
+
+def scattered(lines, size):
+    """Parts of that many segments of lines, in random order."""
+    parts = [line[at:at + size + 1] for line in lines for at in range(0, len(line) - 1, size)]
+    random.Random(7).shuffle(parts)
+    return parts
+
+
+def spokes():
+    """26,000 segments from a place to the nearest points that it sees, and as many back, in lines of 26 points."""
+    seen = [(x, y) for x in range(-120, 121) for y in range(-120, 121) if math.gcd(x, y) == 1]
+    nearest = sorted(seen, key=lambda point: (math.hypot(*point), point))[:26_000]
+    return [[place for end in nearest[at:at + 26] for place in ((0, 0), end)] + [(0, 0)] for at in range(0, 26_000, 26)]
 
 
 def parallels():
@@ -95,11 +110,14 @@ def worst():
     square = [[(0, 0), (100, 0), (100, 100), (0, 100), (0, 0)]]
     yield "a zigzag of 65,472 points on four places", 1, [zigzag()]
     yield "52,000 segments beside each other, 6 across 1", 2, [diagonals(363, 60)]
+    yield "the same in 1,000 lines, in random order", 2, [scattered(diagonals(363, 60), 52)]
+    yield "26,000 spokes to points that a place sees", 2, [spokes()]
     yield "1,024 parallel diagonals", 2, [parallels()]
     yield "a weave of 512 lines by 512", 2, [weave()]
     yield "a tangle of 1,024 lines", 2, [tangle()]
     yield "1,024 lines on one line", 2, [nested()]
     yield "1,024 random walks", 1, [walks()]
+    yield "the same in random order", 1, [scattered(walks(), 64)]
     yield "one line 1,024 times", 2, [alike()]
     yield "255 squares on one place, a block each", 2, [square] * 255
     yield "a star of 1,024 strokes", 2, [star()]
