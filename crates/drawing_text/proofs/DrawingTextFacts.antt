@@ -1,6 +1,6 @@
 -- Worked values of drawing texts: drawings, and the first faults of texts.
-use Rattle.std.proofs.Common.{◌≡◌, ℕ, pos, negsuc, List, [], ◌∷◌, ◌++◌, Ok, Err, codes, refl}
-use Rattle.drawing_text.proofs.Names.{flat_map, LineValue, lines_through, DrawKind, DrawingValue, body_of_text, drawing_as2, drawing_of, text_lines, line_without_return, words_of_line, located_fault}
+use Rattle.std.proofs.Common.{◌≡◌, ℕ, pos, negsuc, false, true, List, [], ◌∷◌, ◌++◌, Ok, Err, codes, refl}
+use Rattle.drawing_text.proofs.Names.{flat_map, LineValue, lines_through, DrawKind, DrawingValue, body_of_text, drawing_as2, drawing_of, begins_comment, text_lines, line_without_return, words_of_line, located_fault}
 use Rattle.drawing_text.specs.declared.version.Version.TheVariants as version
 use Rattle.line_graph.specs.declared.draw_kind.DrawKind.TheVariants as kind
 use Rattle.drawing_text.proofs.CanonicalTextFacts.{place}
@@ -21,6 +21,10 @@ known_return = refl
 -- spaces and tabs stand between words, and may stand at both ends
 pub known_words : words_of_line (32 ∷ 9 ∷ 97 ∷ 98 ∷ 32 ∷ 32 ∷ 99 ∷ 9 ∷ []) ≡ codes "ab" ∷ codes "c" ∷ []
 known_words = refl
+
+-- a word without bytes begins no comment
+pub known_comment : (begins_comment [] ≡ false) × (begins_comment (codes "#step") ≡ true) × (begins_comment (codes "step#") ≡ false)
+known_comment = (refl, refl, refl)
 
 -- the header is in the third line, after a comment and an empty line, and all lines after it are kept
 pub known_body : body_of_text (text (codes "# a rose" ∷ [] ∷ codes "redwork 2" ∷ codes "# red" ∷ codes "step 30" ∷ []))

@@ -7,7 +7,7 @@ use Rattle.stitch_trace.specs.declared.needle_moves.NeedleMove.{NeedleMove}
 use Rattle.stitch_trace.specs.declared.needle_moves.NeedleMove.TheVariants.{Stay, Gap, Sewn}
 use Rattle.stitch_trace.specs.declared.trace_fault.TraceFault.{TraceFault}
 use Rattle.stitch_trace.specs.declared.trace_fault.TraceFault.TheVariants as fault
-use Rattle.stitch_trace.proofs.Names.{DrawKind, Link, Point, is_same_link}
+use Rattle.stitch_trace.proofs.Names.{DrawKind, Link, Point, is_same_link, longest}
 
 abbrev at : ℕ → Point
 at x = record { x = pos x; y = pos 0 }
@@ -33,6 +33,10 @@ known_chain = (refl, refl, refl, refl)
 pub known_chains : chains_after (at 9 ∷ at 0 ∷ []) (Sewn 2 (link 0 10) ∷ Stay ∷ Sewn 5 (link 10 25) ∷ Gap ∷ Gap ∷ Sewn 7 (link 25 30) ∷ [])
     ≡ (at 9 ∷ at 0 ∷ at 10 ∷ at 25 ∷ []) ∷ (at 25 ∷ at 30 ∷ []) ∷ []
 known_chains = refl
+
+-- the size of the longest of no links is 0
+pub known_longest : (longest [] ≡ 0) × (longest (link 0 10 ∷ link 25 10 ∷ link 3 4 ∷ []) ≡ 15)
+known_longest = (refl, refl)
 
 -- the longest link so far is 12, and of these 15; one of 2048 is too long, and none at all is a fault
 pub known_max_size : (max_size_after 12 moves ≡ Ok 15) × (max_size_after 99 moves ≡ Ok 99)
