@@ -6,6 +6,7 @@ mod programs;
 mod tasks;
 #[cfg(test)]
 mod tests;
+mod writing;
 
 use std::alloc::Global;
 use tasks::{

@@ -1,5 +1,6 @@
 ghost use Rattle.std.specs.Prelude.{refl};
 
+use crate::writing::{design_may_write, drawing_may_write, stitch_may_write};
 use design_commands::run_design;
 use picture_commands::run_picture;
 use program_shell::Status;
@@ -25,6 +26,10 @@ impl TaskProgram for StitchProgram {
         run_stitch(alloc, words, store, out, err)
     }
 
+    fn may_write(words: &[String]) -> bool {
+        stitch_may_write(words)
+    }
+
     ghost keeps = { λ words before after runs. (runs.ends.refused refl).untouched.store };
 }
 
@@ -44,6 +49,10 @@ impl TaskProgram for DrawingProgram {
         err: &mut GrowingSink,
     ) -> Result<Status, AllocError> {
         Ok(drawing_commands::run(alloc, words, store, out, err))
+    }
+
+    fn may_write(words: &[String]) -> bool {
+        drawing_may_write(words)
     }
 
     ghost keeps = { λ words before after runs. (runs.refused refl).untouched.store };
@@ -67,6 +76,10 @@ impl TaskProgram for PictureProgram {
         run_picture(alloc, words, store, out, err)
     }
 
+    fn may_write(_words: &[String]) -> bool {
+        true
+    }
+
     ghost keeps = { λ words before after runs. (runs.refused refl).untouched.store };
 }
 
@@ -86,6 +99,10 @@ impl TaskProgram for DesignProgram {
         err: &mut GrowingSink,
     ) -> Result<Status, AllocError> {
         run_design(alloc, words, store, out, err)
+    }
+
+    fn may_write(words: &[String]) -> bool {
+        design_may_write(words)
     }
 
     ghost keeps = { λ words before after runs. (runs.refused refl).untouched.store };

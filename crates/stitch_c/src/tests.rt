@@ -11,6 +11,13 @@ const CONVERT: &[u8] =
 const CONVERT_REPLY: &[u8] =
     b"\0\0\0\0\x1a\0\0\0needles 2 trims 0 stops 0\n\0\0\0\0\x01\0\0\0\x05\0\0\0b.lst:\0\0\0stitch-list 1\nlabel []\nblock 5\nneedle 0 0\nneedle 30 0\nend\n";
 
+/// `show a.lst`, which writes no file.
+const SHOW: &[u8] =
+    b"\x02\0\0\0\x04\0\0\0show\x05\0\0\0a.lst\x01\0\0\0\x05\0\0\0a.lst:\0\0\0stitch-list 1\nlabel []\nblock 5\nneedle 0 0\nneedle 30 0\nend\n";
+
+const SHOW_REPLY: &[u8] =
+    b"\0\0\0\0n\0\0\0format lst\nlabel []\ncommands 2\nneedles 2\ntrims 0\nstops 0\nextent 0 0 30 0\nended yes\nblock 1 thread 5 needles 2\n\0\0\0\0\0\0\0\0";
+
 /// `snap 2 a.lst b.rw`, of a file that is no drawing.
 const SNAP: &[u8] =
     b"\x04\0\0\0\x04\0\0\0snap\x01\0\0\02\x05\0\0\0a.lst\x04\0\0\0b.rw\x01\0\0\0\x05\0\0\0a.lst:\0\0\0stitch-list 1\nlabel []\nblock 5\nneedle 0 0\nneedle 30 0\nend\n";
@@ -42,6 +49,8 @@ fn each_program_replies(rt: HostRuntime) -> Result<(), Fail> {
     let mut reply = [0u8; 200];
     let count = run_stitch_task(alloc, CONVERT, &mut reply);
     assert_eq!(rt; returned(&reply, count), CONVERT_REPLY);
+    let count = run_stitch_task(alloc, SHOW, &mut reply);
+    assert_eq!(rt; returned(&reply, count), SHOW_REPLY);
     let count = run_stitch_drawing_task(alloc, SNAP, &mut reply);
     assert_eq!(rt; returned(&reply, count), SNAP_REPLY);
     let count = run_stitch_picture_task(alloc, PROVE, &mut reply);

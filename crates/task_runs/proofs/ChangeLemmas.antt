@@ -4,6 +4,7 @@ use Rattle.std.proofs.lemmas.List.{append_assoc}
 use Rattle.std.proofs.lemmas.Slice.Eq.{bytes_eq-Decides}
 use Rattle.std.specs.Str.{bytes_eq}
 use Rattle.outside_io.specs.Files.{Files}
+use Rattle.program_shell.specs.Products.{ChangesOnlyFiles}
 use Rattle.task_runs.specs.Packing.{FileValue}
 use Rattle.task_runs.specs.NameLists.{is_listed}
 use Rattle.task_runs.specs.Replies.{EachChangeIsListed, IsAmong, changed_file, changed_files, is_given}
@@ -40,14 +41,9 @@ same_file : (given : Option (List ℕ)) (name : List ℕ) → changed_file given
 same_file None name = refl
 same_file (Some content) name = rw ((bytes_eq-Decides content content).1 refl) refl
 
--- files that are as they were given aren't changed
-pub none_changed : (given : List FileValue) (left : Files) (names : List (List ℕ)) → Some left ≡ Some (content_in given)
-    → changed_files given left names ≡ []
-none_changed given left names same = of_names names
-  where
-    same_files : (f g : Files) → Some f ≡ Some g → f ≡ g
-    same_files f g is = cc
-
-    of_names : (names : List (List ℕ)) → changed_files given left names ≡ []
-    of_names [] = refl
-    of_names (name ∷ rest) = rw (same_files left (content_in given) same, same_file (content_in given name) name, of_names rest) refl
+-- files that are left alone aren't changed
+pub none_changed : (given : List FileValue) (left : Files) (names : List (List ℕ))
+    → ChangesOnlyFiles [] (Some (content_in given)) (Some left) → changed_files given left names ≡ []
+none_changed given left [] same = refl
+none_changed given left (name ∷ rest) same =
+    rw (same name tt, same_file (content_in given name) name, none_changed given left rest same) refl

@@ -1,5 +1,5 @@
 -- Worked values of where a run begins, of replies and of what is returned, by hand.
-use Rattle.std.proofs.Common.{◌≡◌, ℕ, [], ◌∷◌, ◌++◌, List, None, Some, ◌⊎◌, true, arith, inl, inr, refl, subst, sym}
+use Rattle.std.proofs.Common.{◌≡◌, ℕ, [], ◌∷◌, ◌++◌, List, Option, None, Some, ◌⊎◌, true, arith, inl, inr, refl, subst, sym}
 use Rattle.program_shell.specs.declared.status.Status.TheVariants as status
 use Rattle.program_shell.specs.declared.status.Status.{Status}
 use Rattle.program_shell.specs.ExitCodes.{exit_number}
@@ -13,7 +13,7 @@ use Rattle.task_runs.specs.Outcomes.IsReply.{ran, refused}
 use Rattle.task_runs.specs.Replies.{IsAmong, changed_files, fault_reply}
 use Rattle.task_runs.specs.FileLists.{content_in}
 use Rattle.task_runs.specs.TaskStores.{files_now, store_of}
-use Rattle.task_runs.specs.TaskViews.{views_before}
+use Rattle.task_runs.specs.TaskViews.{LeavesFilesAlone, views_before}
 
 -- files `a` with 1, `b` with 2, and `a` with 3
 abbrev given : List FileValue
@@ -99,6 +99,17 @@ known_files reply is =
       subst (λ (f : Files). ListsFiles is.names f) (sym same) is.listed,
       subst (λ (f : Files). reply.files ≡ changed_files [] f is.names) (sym same) is.files,
     )
+
+-- a run that leaves a file where there was none doesn't leave the files alone, and one that never ends so does
+pub known_left_alone : (LeavesFilesAlone Ends task.words status.Refused → ⊥) × LeavesFilesAlone Ends task.words status.Done
+known_left_alone = (refuted, λ before after runs. never runs.1.1)
+  where
+    refuted : LeavesFilesAlone Ends task.words status.Refused → ⊥
+    refuted alone = let same : ◌≡◌ {A = Option (List ℕ)} (Some (1 ∷ [])) None =
+        alone (views_before []) after_run ((refl, refl), (refl, refl)) (97 ∷ []) tt in absurd (cc)
+
+    never : {A : Type 0} → status.Done ≡ status.Refused → A
+    never is = absurd (cc)
 
 -- a list without a name that has a file doesn't list the files
 pub known_lists : (ListsFiles ((97 ∷ []) ∷ (99 ∷ []) ∷ []) left → ⊥) × (is_listed ((97 ∷ []) ∷ (99 ∷ []) ∷ []) (99 ∷ []) ≡ true)

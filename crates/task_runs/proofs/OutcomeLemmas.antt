@@ -34,6 +34,13 @@ run_reply Ends task s store names out err listed ends = record {
   files = refl;
 }
 
+-- what is packed with some files is packed with equal ones
+pub packed_with : (bytes out err : List ℕ) (n : ℕ) (files same : List FileValue)
+    → bytes ≡ packed_reply (record { outcome = n; out = out; err = err; files = files }) → files ≡ same
+    → bytes ≡ packed_reply (record { outcome = n; out = out; err = err; files = same })
+packed_with bytes out err n files same is equal =
+    subst (λ (f : List FileValue). bytes ≡ packed_reply (record { outcome = n; out = out; err = err; files = f })) equal is
+
 -- bytes that are returned are those of an equal list
 same_returned : (bytes other before after : List ℕ) (count : ℕ) → bytes ≡ other → IsReturned bytes before after count
     → IsReturned other before after count

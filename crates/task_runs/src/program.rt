@@ -1,7 +1,9 @@
 ghost use Rattle.task_runs.specs.GrowingSinks.{growing_view};
 ghost use Rattle.program_shell.specs.RunViews.{views_of};
-ghost use Rattle.std.specs.Prelude.{IfOk, map, string_bytes};
+ghost use Rattle.program_shell.specs.declared.status.Status.{Status};
+ghost use Rattle.std.specs.Prelude.{◌≡◌, IfOk, false, map, string_bytes};
 ghost use Rattle.task_runs.specs.TaskStores.{task_store_view};
+ghost use Rattle.task_runs.specs.TaskViews.{LeavesFilesAlone};
 
 use crate::growing_sink::GrowingSink;
 use crate::growing_store::GrowingStore;
@@ -30,6 +32,10 @@ pub trait TaskProgram {
         ensures { IfOk result (ends (map string_bytes words.now)
             (views_of (task_store_view store.old) (growing_view out.old) (growing_view err.old))
             (views_of (task_store_view store.new) (growing_view out.new) (growing_view err.new))) };
+
+    /// Returns whether runs with these arguments may write files. Others leave all files as they were, whatever their status.
+    fn may_write(words: &[String]) -> bool
+        ensures { result ≡ false → (s : Status) → LeavesFilesAlone ends (map string_bytes words.now) s };
 
     /// A refused run leaves the files as they were.
     ghost keeps: { (words : List (List ℕ)) (before after : Views) → ends words before after status.Refused

@@ -1,15 +1,15 @@
 ghost use Rattle.design_model.specs.OutOfMemory.{UnlessOutOfMemory};
 ghost use Rattle.program_shell.specs.ExitCodes.{exit_number};
-ghost use Rattle.program_shell.specs.declared.status.Status.TheVariants.{Refused};
-ghost use Rattle.std.specs.Prelude.{◌≡◌, Err, IfErr, IfOk, Ok, Some, map};
+ghost use Rattle.program_shell.specs.Products.{ChangesOnlyFiles};
+ghost use Rattle.std.specs.Prelude.{◌≡◌, [], Err, IfErr, IfOk, Ok, map, string_bytes, true};
 ghost use Rattle.task_runs.specs.Packing.{packed_reply};
 ghost use Rattle.task_runs.specs.TaskReading.{task_of};
 ghost use Rattle.task_runs.specs.TaskValues.{file_value, task_is_out_of_memory, task_value};
 ghost use Rattle.task_runs.specs.NameLists.{ListsFiles};
 ghost use Rattle.task_runs.specs.Outcomes.{IsReturned, IsRunReply, ReturnsOutcome};
-ghost use Rattle.task_runs.specs.FileLists.{content_in};
-ghost use Rattle.task_runs.specs.Replies.{EachChangeIsListed, changed_files, reply_of};
+ghost use Rattle.task_runs.specs.Replies.{EachChangeIsListed, changed_files};
 ghost use Rattle.task_runs.specs.TaskStores.{StoreHasTheFiles, files_now, task_store_view};
+ghost use Rattle.task_runs.specs.TaskViews.{LeavesFilesAlone, views_before};
 
 use crate::changed_files::changed_files;
 use crate::faults::fault_reply;
@@ -64,52 +64,58 @@ fn run_read<P: TaskProgram>(alloc: Global, task: &Task<'_>) -> Result<Bytes, Mem
     let mut out = GrowingSink::new(alloc);
     let mut err = GrowingSink::new(alloc);
     let status = P::run(alloc, task.words.as_slice(), &mut store, &mut out, &mut err)?;
-    let reply = pack_run(alloc, task, status, &store, &out, &err)?;
+    let left_alone = leaves_files_alone::<P>(task.words.as_slice(), status);
+    let files = files_left(alloc, task, left_alone, &store)?;
+    let reply = pack_run(alloc, status, &out, &err, files.as_slice())?;
     Ok(reply)
 }
 
-/// Packs the reply of a run that ended with this status, and left this store and these sinks. A refused run changed no file.
+/// Packs the reply of a run that ended with this status, with what the two sinks took and the files that it left.
 fn pack_run(
     alloc: Global,
-    task: &Task<'_>,
     status: Status,
-    store: &GrowingStore<'_>,
     out: &GrowingSink,
     err: &GrowingSink,
+    files: &[TaskFile<'_>],
 ) -> Result<Bytes, Memory>
-    requires { status ≡ Refused
-        → (task_store_view store.now).files ≡ Some (content_in (task_value task.now).files) }
-    ensures { IfOk result (λ bytes. (names : _) × ListsFiles names (files_now store.now) × (bytes
-        ≡ packed_reply (reply_of (task_value task.now) status store.now names out.now err.now))) }
+    ensures { IfOk result (λ bytes. bytes ≡ packed_reply (record {
+      outcome = exit_number status;
+      out = out.now.bytes;
+      err = err.now.bytes;
+      files = map file_value files.now;
+    })) }
 {
-    let files = files_left(alloc, task, status, store)?;
-    let reply = pack_reply(
-        alloc,
-        outcome(status),
-        out.taken(),
-        err.taken(),
-        files.as_slice(),
-    )?;
+    let reply = pack_reply(alloc, outcome(status), out.taken(), err.taken(), files)?;
     Ok(reply)
 }
 
-/// Returns the files that a run left and that weren't given so. A refused run left none, which takes no look at them.
+/// Returns whether runs with these arguments that end with that status leave all files as they were, as far as it is known.
+fn leaves_files_alone<P: TaskProgram>(words: &[String], status: Status) -> bool
+    ensures { result ≡ true → LeavesFilesAlone P.ends (map string_bytes words.now) status }
+{
+    match status {
+        Status::Refused => true,
+        _ => !P::may_write(words),
+    }
+}
+
+/// Returns the files that a run left and that weren't given so. Where all were left as they were given, it takes no look at them.
 fn files_left<'a>(
     alloc: Global,
     task: &Task<'_>,
-    status: Status,
+    left_alone: bool,
     store: &'a GrowingStore<'_>,
 ) -> Result<Items<TaskFile<'a>>, Memory>
-    requires { status ≡ Refused
-        → (task_store_view store.now).files ≡ Some (content_in (task_value task.now).files) }
+    requires { left_alone ≡ true → ChangesOnlyFiles [] (views_before (task_value task.now).files).store.files
+        (task_store_view store.now).files }
     ensures { IfOk result (λ files. (names : _) × ListsFiles names (files_now store.now)
         × (map file_value files ≡ changed_files (task_value task.now).files (files_now store.now) names)) }
 {
     let names = store.names();
-    match status {
-        Status::Refused => Ok(Items::new(alloc)),
-        _ => changed_files(alloc, task.files.as_slice(), store, names),
+    if left_alone {
+        return Ok(Items::new(alloc));
     }
+    changed_files(alloc, task.files.as_slice(), store, names)
 }
 
 /// Returns the outcome of a run that ended with that status.
