@@ -1,11 +1,11 @@
 -- What the tables of the checks hold, and what a check of a walk, of a cut and of cuts reports.
 use Rattle.std.proofs.Common.{◌≡◌, ℕ, ◌+◌, ◌*◌, ◌%◌, ◌<◌, ◌≤◌, ◌==◌, Bool, if◌then◌else◌, All, length, count_by, sum_by, true, false, List, [], ◌∷◌, Option, Some, None, Ok, Err, get_or, slice_get, refl, arith}
-use Rattle.odd_cuts.proofs.Names.{AddsShares, AreAtMost, ChecksWalk, Cut, CutFault, Edge, IsPacking, IsValidPiece, Pass, ReportsFault, junctions_of, odd_among, table_load_faults}
+use Rattle.odd_cuts.proofs.Names.{nat_tests, AddsShares, AreAtMost, ChecksWalk, Cut, CutFault, Edge, IsPacking, IsValidPiece, Pass, ReportsFault, junctions_of, odd_among, table_load_faults}
 use Rattle.line_graph.specs.Drawings.{DrawingValue}
 use Rattle.line_graph.specs.DrawnWalks.{given_point}
 use Rattle.line_graph.specs.LineNeedles.{cost_of_line}
 use Rattle.line_graph.specs.PieceGraphs.{piece_graph}
-use Rattle.odd_cuts.specs.CheckTables.{AreEdgeIndexes, AreParities, ChecksCut, ChecksCuts, IsSummaryFrom, IsWalkSummary}
+use Rattle.odd_cuts.specs.CheckTables.{AreEdgeIndexes, AreMemberFlags, AreParities, ChecksCut, ChecksCuts, IsSummaryFrom, IsWalkSummary}
 use Rattle.odd_cuts.specs.DrawnCuts.{IsPackingOver, PackingsAreOverLines, given_apart, leads_out}
 use Rattle.odd_cuts.specs.declared.faults.CutFault.TheVariants as cut_fault
 use Rattle.odd_cuts.specs.declared.faults.WalkFault.{WalkFault}
@@ -71,6 +71,10 @@ pub known_cut : (held : List Bool) (f : CutFault)
     × (ChecksCut closed 4 (cut 1 (1 ∷ 2 ∷ [])) (Ok held) → ⊥)
     × (ChecksCut closed 4 (cut 1 (1 ∷ 2 ∷ [])) (Err f) → Some (cut_fault.EvenCut 4 2) ≡ Some f)
 known_cut held f = (λ is. (is.1 1 (omega arith), is.1 1024 (omega arith)), λ is. no_cut_fault (cut_fault.EvenCut 4 2) is.0, λ is. is)
+
+-- the last junction that a drawing may have is 1024, and of later ones nothing is said
+pub known_flags : AreMemberFlags (1025 ∷ []) []
+known_flags j below = grind (arith, nat_tests, below)
 
 -- the loads of cuts, and what one more adds
 pub known_cuts : (loads : List ℕ) (f : CutFault)
