@@ -147,6 +147,14 @@ pub known_whole_failed : (name : List ℕ) (limit : ℕ) (old new : StoreView) �
     → new.blame ≡ Some (read_call name)
 known_whole_failed name limit old new reads = reads.blame
 
+-- no fault is counted where a file is read whole, is missing, or is too long, nor for want of memory
+pub known_whole_faultless : (name bytes : List ℕ) (limit : ℕ) (old new : StoreView)
+    → (ReadsWholeFile name limit old new (Ok bytes) → HasNoNewFault old new)
+    × (ReadsWholeFile name limit old new (Err fault.Missing) → HasNoNewFault old new)
+    × (ReadsWholeFile name limit old new (Err fault.TooLong) → HasNoNewFault old new)
+    × (ReadsWholeFile name limit old new (Err fault.Memory) → HasNoNewFault old new)
+known_whole_faultless name bytes limit old new = (λ reads. reads.2, λ reads. reads.1, λ reads. reads.1, λ reads. reads)
+
 -- the next part is within the limit and the buffer
 pub known_part : (name before buffer : List ℕ) (limit count : ℕ) (old new : StoreView)
     → ReadsNextPart name (length before) limit old new buffer (Ok count)
