@@ -5,7 +5,7 @@ use Rattle.line_graph.specs.Drawings.{DrawingValue}
 use Rattle.line_graph.specs.PieceGraphs.{PieceValue}
 use Rattle.design_model.specs.Lengths.{length_of, square_of, whole_root}
 use Rattle.piece_stitches.specs.StitchSummaries.{is_short, stitch_lengths, summary_of_lengths, summary_of_lines}
-use Rattle.piece_stitches.specs.Travels.{travel_between}
+use Rattle.piece_stitches.specs.Travels.{travel_between, way_between}
 
 abbrev at : ℤ → ℤ → Point
 at x y = record { x = x; y = y }
@@ -64,3 +64,7 @@ pub known_travel_to_start : travel_between (stroke (at (pos 0) (pos 0)) (at (pos
     (stroke (at (pos 30) (pos 40)) (at (pos 60) (pos 0)) (Some 1) None) ≡ 4000
 unfolding length_of square_of whole_root
 known_travel_to_start = refl
+
+-- where one of two points is missing, the way between them is 0
+pub known_no_way : (way_between (Some (at (pos 3) (pos 4))) None ≡ 0) × (way_between None (Some (at (pos 3) (pos 4))) ≡ 0)
+known_no_way = (refl, refl)

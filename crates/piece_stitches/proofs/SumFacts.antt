@@ -19,6 +19,10 @@ pub known_grown : (with_stitches no_stitches (999 ∷ 1000 ∷ 1500 ∷ [])
     ≡ record { stitches = 4; shortest = 300; longest = 1200; short = 2; thread = 2800 })
 known_grown = (refl, refl)
 
+-- before the first stitch all is 0
+pub known_none : with_stitches no_stitches [] ≡ record { stitches = 0; shortest = 0; longest = 0; short = 0; thread = 0 }
+known_none = refl
+
 -- no more stitches are short than there are, and each is shorter than 2 ^ 64
 pub known_short : IsSummary (summary 2 3 1300) → ⊥
 known_short is = omega (arith, is.short)
