@@ -1,6 +1,7 @@
 -- Worked values of spaced lines, in tenths of a millimetre.
 use Rattle.std.proofs.Common.{◌≡◌, ℕ, ℤ, ◌+◌, true, false, pos, ap, Some, None, List, [], ◌∷◌, map, refl, replicate}
 use Rattle.design_model.specs.Lengths.{square_of}
+use Rattle.spaced_lines.specs.SpacingRules.{segment_between}
 use Rattle.spaced_lines.proofs.Names.{Best, IsChoice, LineValue, Point, SpacingRule, all_sections, bests_of, end_spots, is_better, is_same_point, is_stitch_for, leeway_of, lines_through, may_leave_out, room_of, rule_of, spaced_lines, spaced_points, square_sum, steps_of_line, stitch_count}
 
 abbrev at : ℕ → ℕ → Point
@@ -20,6 +21,21 @@ pub known_rules : (rule 30 ≡ record { step = 30; square = 1800; leeway = 3 })
     × (rule_of (record { length = Some 25; leeway = None }) 40 ≡ record { step = 40; square = 625; leeway = 4 })
     × (rule_of (record { length = None; leeway = Some 7 }) 20 ≡ record { step = 20; square = 800; leeway = 7 })
 known_rules = (refl, refl, refl, refl)
+
+-- the segment by itself has no place among others
+pub known_segment : segment_between (at 1 9) (at 4 2) ≡ record {
+  block = 0;
+  line = 0;
+  number = 0;
+  is_first = false;
+  is_last = false;
+  from = at 1 9;
+  to = at 4 2;
+  a = record { x = 30001; y = 30009 };
+  b = record { x = 30004; y = 30002 };
+  frame = record { left = 30001; right = 30004; top = 30002; bottom = 30009 };
+}
+known_segment = refl
 
 -- a stitch may be as long as the step on both axes, and no longer on either; and it has a length
 pub known_stitches : (is_stitch_for (rule 30) (at 0 0) (at 30 30) [] ≡ true) × (is_stitch_for (rule 30) (at 0 0) (at 31 0) [] ≡ false)
