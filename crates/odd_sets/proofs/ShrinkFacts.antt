@@ -37,6 +37,10 @@ known_no_parts agree = agree
 abbrev chain : List PartValue
 chain = part (place 2 5) 2 3 ∷ part (place 3 6) 3 1 ∷ []
 
+-- a blossom begins with dual 0, and holds what its parts hold
+pub known_begun : ((blossom_set 9 chain).key ≡ 9) × ((blossom_set 9 chain).members ≡ 2 ∷ 3 ∷ []) × ((blossom_set 9 chain).dual ≡ 0)
+known_begun = (refl, refl, refl)
+
 pub known_chain_ends : (way : TightEdge) (to : ℕ) → CanClose (place 1 4) way chain to
     → (count way.to (2 ∷ []) ≡ 1) × (to ≡ 1) × (count way.from (1 ∷ []) ≡ 1)
 known_chain_ends way to can = (can.leads.0, sym can.leads.2.2, can.from)
