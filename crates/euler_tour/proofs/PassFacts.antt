@@ -22,6 +22,11 @@ pub known_pass_from : (pass_from (20 ∷ 31 ∷ []) 3 ≡ record { line = 31; ba
     × (pass_to (20 ∷ 31 ∷ []) 3 ≡ record { line = 31; back = false })
 known_pass_from = (refl, refl)
 
+-- an end of no line is one of line 0
+pub known_absent : (pass_from (20 ∷ 31 ∷ []) 4 ≡ record { line = 0; back = false })
+    × (pass_to (20 ∷ 31 ∷ []) 4 ≡ record { line = 0; back = true })
+known_absent = (refl, refl)
+
 -- what is left of lines and ends
 pub known_times : (pass_counts others_again ≡ 1 ∷ 4 ∷ 3 ∷ [])
     × (decremented_at (1 ∷ 4 ∷ 3 ∷ []) 1 ≡ 1 ∷ 3 ∷ 3 ∷ [])
