@@ -2,11 +2,13 @@
 use Rattle.std.proofs.Common.{◌≡◌, ℕ, pos, true, false, List, [], ◌∷◌, Ok, Err, refl}
 use Rattle.design_model.specs.declared.point.Point.{Point}
 use Rattle.free_ends.specs.FreedDrawings.{HasFoundEnds, IsFreed, drawn_and_joined, joined_with, lines_joined}
-use Rattle.free_ends.specs.PieceEnds.{AreFound, with_best_ends}
+use Rattle.free_ends.specs.PieceEnds.{AreFound, IsFound, with_best_ends}
 use Rattle.free_ends.specs.declared.freed_drawing.FreedDrawing.{FreedDrawing}
+use Rattle.free_ends.specs.declared.piece_ends.PieceEnds.{PieceEnds}
 use Rattle.line_graph.specs.declared.draw_kind.DrawKind.TheVariants as kind
 use Rattle.line_graph.specs.Drawings.{DrawingValue}
-use Rattle.line_graph.specs.PiecesOfDrawings.{ArePiecesOf}
+use Rattle.line_graph.specs.PiecesOfDrawings.{ArePiecesOf, graph_of}
+use Rattle.line_graph.specs.declared.piece.Piece.{Piece}
 use Rattle.line_sections.specs.Lines.{LineValue}
 use Rattle.line_sections.specs.declared.spot.Spot.{Spot}
 
@@ -47,6 +49,10 @@ known_refused = (refl, refl)
 pub known_both : (drawn joined : DrawingValue) → (drawn_and_joined drawn (Ok joined) ≡ Ok (record { drawn = drawn; joined = joined }))
     × (drawn_and_joined drawn (Err kind.NoBlock) ≡ Err kind.NoBlock)
 known_both drawn joined = (refl, refl)
+
+-- what is found is that of each piece, in order
+pub known_found : (p q : Piece) (f g : PieceEnds) → AreFound (p ∷ q ∷ []) (f ∷ g ∷ []) → IsFound (graph_of p) f × IsFound (graph_of q) g
+known_found p q f g are = (are.0, are.1.0)
 
 -- a freed drawing has the pieces of the one before, what is found of each, and starts and ends that are found beside its own
 pub known_freed : (drawn before : DrawingValue) (freed : FreedDrawing) → IsFreed drawn before freed
