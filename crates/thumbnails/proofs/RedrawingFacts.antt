@@ -11,8 +11,9 @@ use Rattle.pes_codec.specs.declared.file_kind.FileKind.{FileKind}
 use Rattle.record_formats.specs.Records.{next, over, refused}
 use Rattle.record_formats.specs.declared.event.Event.TheVariants as event
 use Rattle.thumbnails.specs.LitPoints.{ThumbPoints, points_in_cells}
-use Rattle.thumbnails.specs.Sketches.{sketch_by}
+use Rattle.thumbnails.specs.Sketches.{nothing_sketched, sketch_by}
 use Rattle.thumbnails.specs.Tails.{TailsAreNotRead, has_end}
+use Rattle.thumbnails.specs.declared.lit_points.ThumbPoint.{ThumbPoint}
 use Rattle.thumbnails.specs.declared.sketch.Sketch.{Sketch}
 
 -- The last 456 bytes are replaced: two thumbnails of a design without commands, which are blank.
@@ -57,6 +58,11 @@ pub known_sketch : (sketch : Sketch) → sketch_by sketch ≡ record {
   done = sketch.done;
 }
 known_sketch sketch = refl
+
+-- at first no point is drawn, the needle is at the upper left, and the thread is loose
+pub known_nothing : (point : ThumbPoint) → (nothing_sketched.whole point ≡ false) × (nothing_sketched.block point ≡ false)
+    × (nothing_sketched.place ≡ record { column = 0; row = 0 }) × (nothing_sketched.loose ≡ true) × (nothing_sketched.done ≡ [])
+known_nothing point = (refl, refl, refl, refl, refl)
 
 -- records with an end, without one, and refused
 pub known_ends : map has_end (next 5 event.Trim (over true) ∷ next 5 event.Trim (over false) ∷ refused (fault.Control 7) ∷ [])
