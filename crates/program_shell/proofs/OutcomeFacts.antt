@@ -1,6 +1,6 @@
 -- What no run does: each word of the outcomes of a run is refuted by a wrong view.
-use Rattle.std.proofs.Common.{◌≡◌, ◌++◌, ◌∷◌, [], ℕ, suc, List, Option, Some, None, inl, inr, refl, codes, ap, ◌∙◌, sym, subst, arith}
-use Rattle.program_shell.proofs.Names.{Blame, Rose, Files, SinkView, StoreView, Status, PutFailed, with_bytes_put, LacksInput, Plan, accepts, refuses, ChangesOnlyFiles, IsNoneOf, OutputValue, ProductValue, WroteAll, WroteUpTo, output_names, Program, IsDecided, IsDone, IsFault, IsMemory, IsPlannedOutcome, IsRefused, IsUsage, KeepsOtherFiles, RunEnds, IsFaultlessRun, Views, views_of, read_call, AllFilesHold, IsMissingInput, IsOutsideFailure, IsPrintFailure, IsReadFailure, IsWriteFailure, IsFailed, IsReportLost, IsUntouched}
+use Rattle.std.proofs.Common.{◌≡◌, ◌++◌, ◌∷◌, [], ℕ, suc, List, Option, Some, None, inl, inr, refl, codes, ap, ◌∙◌, sym, subst, arith, true, false}
+use Rattle.program_shell.proofs.Names.{Blame, Rose, Files, SinkView, StoreView, Status, PutFailed, with_bytes_put, LacksInput, Plan, accepts, refuses, ChangesOnlyFiles, IsNoneOf, OutputValue, ProductValue, WroteAll, WroteUpTo, output_names, Program, IsDecided, IsDone, IsFault, IsMemory, IsPlannedOutcome, IsRefused, IsUsage, KeepsOtherFiles, RunEnds, IsFaultlessRun, Views, views_of, read_call, AllFilesHold, IsMissingInput, IsOutsideFailure, IsPrintFailure, IsReadFailure, IsWriteFailure, IsFailed, IsReportLost, IsUntouched, status_is_out_of_memory}
 use Rattle.program_shell.specs.Plans.{Makes}
 use Rattle.program_shell.specs.declared.status.Status.TheVariants as status
 
@@ -327,3 +327,9 @@ pub known_run : (plan : Plan) (requested : Option ℕ) (before after : Views) (s
     → KeepsOtherFiles (one_plan plan) requested before after
     × (IsFaultlessRun before after → IsDecided (one_plan plan) requested before.store.files s)
 known_run plan requested before after s ends = (ends.others, ends.decided)
+
+-- out of memory alone may stand for what was planned
+pub known_excused : (status_is_out_of_memory status.Done ≡ false) × (status_is_out_of_memory status.Refused ≡ false)
+    × (status_is_out_of_memory status.Usage ≡ false) × (status_is_out_of_memory status.Fault ≡ false)
+    × (status_is_out_of_memory status.Memory ≡ true)
+known_excused = (refl, refl, refl, refl, refl)
