@@ -1,11 +1,15 @@
 -- The change that each edit is, the bounds of its numbers, and the faults that are out of memory.
-use Rattle.std.proofs.Common.{◌≡◌, pos, true, false, [], ◌∷◌, map, refl, arith, length}
+use Rattle.std.proofs.Common.{◌≡◌, pos, true, false, List, [], ◌∷◌, Ok, Err, map, refl, arith, length}
 use Rattle.design_edits.specs.declared.axis.Axis.TheVariants as axis
 use Rattle.design_edits.specs.declared.motion.Motion.TheVariants as motion
 use Rattle.edited_designs.specs.DesignChanges.{bared, beaned, carried, centred, cut, merged, moved, needled, pictured, scaled, threaded, tied, named}
 use Rattle.edited_designs.specs.declared.design_edit.DesignEdit.TheVariants as edit
 use Rattle.edited_designs.specs.declared.design_fault.DesignFault.TheVariants as fault
-use Rattle.edited_designs.proofs.Names.{IsDesignEdit, bad_design_edit_is_out_of_memory, design_change}
+use Rattle.design_model.specs.declared.act.Act.{Act}
+use Rattle.design_rewrites.specs.Rewrites.{design_with_acts}
+use Rattle.edited_designs.specs.EditedDesigns.{given_acts}
+use Rattle.step_splitter.specs.Refits.{commands_of_acts}
+use Rattle.edited_designs.proofs.Names.{nat_tests, DesignValue, IsDesignEdit, bad_design_edit_is_out_of_memory, design_change}
 
 pub known_changes : map design_change
     (edit.Move (motion.Mirror axis.Y) ∷ edit.Thread 3 9 ∷ edit.Tie 7 ∷ edit.Bare ∷ edit.Centre ∷ edit.Cut 60
@@ -45,3 +49,9 @@ pub known_faults : map bad_design_edit_is_out_of_memory
     ∷ record { number = 3; fault = fault.TooMany } ∷ record { number = 4; fault = fault.Memory } ∷ [])
     ≡ false ∷ false ∷ false ∷ true ∷ []
 known_faults = refl
+
+-- a design has at most a million commands
+pub known_given : (d : DesignValue) (acts : List Act)
+    → (length (commands_of_acts acts) ≡ 1000000 → given_acts d acts ≡ Ok (design_with_acts d acts))
+    × (length (commands_of_acts acts) ≡ 1000001 → given_acts d acts ≡ Err fault.TooMany)
+known_given d acts = (λ full. grind (arith, nat_tests, full), λ over. grind (arith, nat_tests, over))
