@@ -1,14 +1,11 @@
--- Worked bounds and steps, and what the records on bounds, told meetings and copies state.
-use Rattle.std.proofs.Common.{◌≡◌, ◌≤◌, ℕ, pos, true, false, List, [], ◌∷◌, ◌++◌, Option, Some, None, map, refl, arith}
+-- Worked bounds, and what the records on bounds, told meetings and copies state.
+use Rattle.std.proofs.Common.{◌≡◌, ℕ, pos, true, false, List, [], ◌∷◌, ◌++◌, Option, Some, None, map, refl, arith}
 use Rattle.design_model.specs.declared.point.Point.{Point}
-use Rattle.drawing_review.specs.declared.grid_point.GridPoint.{GridPoint}
 use Rattle.drawing_review.specs.Frames.{grid_point}
-use Rattle.line_meetings.specs.declared.joints.Joint.{Joint}
 use Rattle.line_meetings.specs.declared.meeting.Meeting.{Meeting}
 use Rattle.line_meetings.specs.declared.part_key.PartKey.{PartKey}
 use Rattle.line_meetings.specs.declared.span.Span.{Span}
 use Rattle.line_meetings.specs.Bounds.{IsWithinSpan, are_bounds_apart, bounds_around, united_span}
-use Rattle.line_meetings.specs.Joints.{point_by_steps, step_after, steps_around_of, steps_with}
 use Rattle.line_meetings.specs.Parts.{key_of, segment_part}
 use Rattle.line_meetings.specs.Sorting.{HasFirsts}
 use Rattle.line_meetings.specs.Telling.{TellsUpTo, told}
@@ -93,26 +90,6 @@ known_within outer inner are =
 pub known_all_within : (bounds : Bounds) (s t : IndexedPart) → AreAllWithin bounds (s ∷ t ∷ [])
     → AreWithin bounds (bounds_of s.part) × AreWithin bounds (bounds_of t.part)
 known_all_within bounds s t are = (are.0, are.1.0)
-
--- points in a row
-abbrev along : ℕ → GridPoint
-along x = grid_point (at x 0)
-
-abbrev joint : (a b : ℕ) → Joint
-joint a b = record { a = along a; b = along b }
-
--- joints from 1 to 2, from 2 to 3 and from 5 to 3: 2 and 3 become 1, and then 1 becomes 5
-pub known_steps : (steps_with [] (joint 1 2 ∷ joint 2 3 ∷ joint 5 3 ∷ []) ≡ joint 1 2 ∷ joint 1 3 ∷ joint 5 1 ∷ [])
-    × (step_after (joint 1 2 ∷ []) (joint 2 3) ≡ joint 1 3)
-    × (point_by_steps (joint 1 2 ∷ joint 1 3 ∷ joint 5 1 ∷ []) (along 3) ≡ along 5)
-    × (point_by_steps (joint 1 2 ∷ joint 1 3 ∷ []) (along 3) ≡ along 1)
-    × (point_by_steps (joint 1 2 ∷ joint 1 3 ∷ []) (along 4) ≡ along 4)
-known_steps = (refl, refl, refl, refl, refl)
-
--- of three segments in a row, those whose ends are within 4 of the point 0
-pub known_steps_around : steps_around_of 4 (from_to (at 0 0) (at 2 0) ∷ from_to (at 2 0) (at 4 0) ∷ from_to (at 4 0) (at 5 0) ∷ [])
-    (from_to (at 0 0) (at 0 0)) ≡ joint 0 2 ∷ joint 0 4 ∷ []
-known_steps_around = refl
 
 -- more meetings come after the old ones, whatever is after them
 pub known_telling : (new more old : List Meeting) → TellsUpTo more old new → (rest : List Meeting)

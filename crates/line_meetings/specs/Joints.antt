@@ -1,6 +1,6 @@
 -- Points that segments join near by. Segments are contracted one after another: the second end of
 -- each becomes its first end, for all that are left.
-use Rattle.std.specs.Prelude.{ℕ, Bool, ◌||◌, List, [], ◌∷◌, ◌++◌, filter, map, if◌then◌else◌}
+use Rattle.std.specs.Prelude.{ℕ, Bool, ◌||◌, List, [], ◌∷◌, filter, map, if◌then◌else◌}
 use Rattle.drawing_review.specs.declared.grid_point.GridPoint.{GridPoint}
 use Rattle.drawing_review.specs.declared.segment.LineSegment.{LineSegment}
 use Rattle.drawing_review.specs.Meetings.{is_same_grid_point}
@@ -24,28 +24,6 @@ are_joined_after moved (t ∷ rest) p q =
 -- Joints join two points.
 abbrev pub are_joined_by : List Joint → (p q : GridPoint) → Bool
 are_joined_by joints p q = are_joined_after (λ z. z) joints p q
-
--- A point after steps, in each of which the second end of a joint becomes its first end.
-abbrev pub point_by_steps : List Joint → GridPoint → GridPoint
-point_by_steps [] p = p
-point_by_steps (t ∷ rest) p = point_by_steps rest (point_after t.b t.a p)
-
--- Steps make two points one.
-abbrev pub do_steps_meet : List Joint → (p q : GridPoint) → Bool
-do_steps_meet steps p q = is_same_grid_point (point_by_steps steps p) (point_by_steps steps q)
-
--- The step for a joint after others.
-abbrev pub step_after : List Joint → Joint → Joint
-step_after steps t = record { a = point_by_steps steps t.a; b = point_by_steps steps t.b }
-
--- Steps with those for further joints, by which the ends of each joint become one point.
-abbrev pub steps_with : List Joint → List Joint → List Joint
-steps_with steps [] = steps
-steps_with steps (t ∷ rest) = steps_with (steps ++ step_after steps t ∷ []) rest
-
--- The steps for the segments whose ends are within the gap of a point.
-abbrev pub steps_around_of : ℕ → List LineSegment → (p : LineSegment) → List Joint
-steps_around_of gap segments p = steps_with [] (map joint_of (filter (is_around gap p) segments))
 
 -- Segments whose ends are within the gap of the point p join it and the point q.
 abbrev pub are_joined_around : ℕ → List LineSegment → (p q : LineSegment) → Bool

@@ -9,5 +9,6 @@ pub mod Telling
 pub mod Meetings
 -- Used only inside this crate.
 pub mod IndexedParts
-pub mod KnownSteps
+pub mod JoinedPoints
+pub mod KnownPoints
 pub mod Sorting

@@ -1,6 +1,7 @@
 ghost use Rattle.line_meetings.specs.declared.meeting.TheConstants.{MAX_MEETINGS};
-ghost use Rattle.line_meetings.specs.Joints.{are_joined, steps_around_of};
-ghost use Rattle.line_meetings.specs.KnownSteps.{AreKnown, is_same_point_key};
+ghost use Rattle.line_meetings.specs.JoinedPoints.{AreJoinedPoints};
+ghost use Rattle.line_meetings.specs.Joints.{are_joined};
+ghost use Rattle.line_meetings.specs.KnownPoints.{AreKnown, is_same_point_key};
 ghost use Rattle.line_meetings.specs.Meetings.{beside, close_points, close_to, meetings_among, meetings_of_lines, point_beside as point_beside_of, repeats_after, touch as touch_of, touches};
 ghost use Rattle.line_meetings.specs.Parts.{all_points, all_segments, ends_first, firsts_of};
 ghost use Rattle.line_meetings.specs.Telling.{TellsUpTo, told};
@@ -9,8 +10,9 @@ ghost use Rattle.std.specs.List.{flat_map};
 ghost use Rattle.std.specs.Prelude.{◌≡◌, ◌++◌, [], IfOk, OnOk, filter, length, map, nat_lt, not};
 
 use crate::copies::{Firsts, without_copies};
-use crate::joints::{Joint, do_meet, steps_of};
-use crate::known_steps::{KnownSteps, keep_steps, known_to_meet};
+use crate::joined_points::JoinedPoints;
+use crate::joints::points_joined;
+use crate::known_points::{KnownPoints, keep_joined, known_to_join};
 use crate::meeting::{MAX_MEETINGS, Meeting, Meetings};
 use crate::meetings::{near_points, point_beside, touch};
 use crate::part_tree::PartTree;
@@ -153,7 +155,7 @@ fn put_close(
     gap: u16,
     near: &PartTree,
     tree: &PartTree,
-    known: &mut KnownSteps,
+    known: &mut KnownPoints,
     p: &LineSegment,
     found: &mut Meetings,
 ) -> Result<(), Memory>
@@ -173,7 +175,7 @@ fn put_unjoined(
     alloc: Global,
     gap: u16,
     tree: &PartTree,
-    known: &mut KnownSteps,
+    known: &mut KnownPoints,
     p: &LineSegment,
     close: &[LineSegment],
     found: &mut Meetings,
@@ -186,9 +188,9 @@ fn put_unjoined(
     if close.is_empty() {
         return Ok(());
     }
-    let around = steps_around(alloc, gap, tree, p)?;
+    let around = joined_around(alloc, gap, tree, p)?;
     for q in close {
-        if is_joined(alloc, gap, tree, known, around.as_slice(), p, q)? {
+        if is_joined(alloc, gap, tree, known, &around, p, q)? {
             continue;
         }
         found.push(near_points(p, q))?;
@@ -196,45 +198,47 @@ fn put_unjoined(
     Ok(())
 }
 
-/// Returns whether segments join two points within the gap of one of them. The steps are those around the first; those
-/// around the second are kept.
+/// Returns whether segments join two points within the gap of one of them. The points are those joined to the first;
+/// those joined to the second are kept.
 fn is_joined(
     alloc: Global,
     gap: u16,
     tree: &PartTree,
-    known: &mut KnownSteps,
-    around: &[Joint],
+    known: &mut KnownPoints,
+    around: &JoinedPoints,
     p: &LineSegment,
     q: &LineSegment,
 ) -> Result<bool, Memory>
-    requires around { around.now ≡ steps_around_of gap tree.now p.now }
+    requires around { AreJoinedPoints gap tree.now p.now around.now }
     requires known { AreKnown gap tree.now (get is_same_point_key known.old) }
     ensures known { OnOk result (AreKnown gap tree.now (get is_same_point_key known.new)) }
     ensures joined { IfOk result (λ joined. joined ≡ are_joined gap tree.now p.now q.now) }
 {
-    if do_meet(around, p.a, q.a) {
+    if around.has(q.a) {
         return Ok(true);
     }
-    if let Some(joined) = known_to_meet(known, q, p.a) {
+    if let Some(joined) = known_to_join(known, q, p.a) {
         return Ok(joined);
     }
-    let around = steps_around(alloc, gap, tree, q)?;
-    keep_steps(alloc, known, q, around.as_slice())?;
-    Ok(do_meet(around.as_slice(), q.a, p.a))
+    let others = joined_around(alloc, gap, tree, q)?;
+    let joined = others.has(p.a);
+    keep_joined(alloc, known, q, others)?;
+    Ok(joined)
 }
 
-/// Returns the steps for the segments whose ends are within the gap of a point.
-fn steps_around(
+/// Returns the points that segments whose ends are within the gap of a point join to it.
+fn joined_around(
     alloc: Global,
     gap: u16,
     tree: &PartTree,
     p: &LineSegment,
-) -> Result<Vec<Joint>, Memory>
-    ensures { IfOk result (λ steps. steps.items ≡ steps_around_of gap tree.now p.now) }
+) -> Result<JoinedPoints, Memory>
+    ensures { IfOk result (AreJoinedPoints gap tree.now p.now) }
 {
     let point = *p;
     let around = tree.matches(alloc, Query::Around { gap, point })?;
-    steps_of(alloc, around.as_slice())
+    let joined = points_joined(alloc, p.a, around.as_slice())?;
+    Ok(joined)
 }
 
 /// Adds the segments that a point lies beside.

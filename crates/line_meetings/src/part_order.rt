@@ -40,8 +40,8 @@ fn places(alloc: Global, parts: &[LineSegment]) -> Result<Vec<OrderedIndex>, Mem
     Ok(order)
 }
 
-/// Returns the place of a part: by its block, by how often its length can be halved, and then along a curve that fills
-/// the plane, where its middle is.
+/// Returns the place of a part: by its block; then longer parts first, by how often their lengths can be halved until
+/// they are below 256 tenths; and then along a curve that fills the plane, where its middle is.
 fn place(s: &LineSegment) -> u64 {
     let length = s.a.x.abs_diff(s.b.x).max(s.a.y.abs_diff(s.b.y));
     let across = spread((s.a.x as u32 + s.b.x as u32) / 2);

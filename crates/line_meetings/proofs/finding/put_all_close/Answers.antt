@@ -1,7 +1,7 @@
 use Rattle.std.proofs.Common.{refl, sym, ◌∙◌}
 use Rattle.std.proofs.lemmas.List.{drop_all, drop_more}
 use Rattle.std.specs.HashMap.{get}
-use Rattle.line_meetings.specs.KnownSteps.{is_same_point_key}
+use Rattle.line_meetings.specs.KnownPoints.{is_same_point_key}
 use Rattle.line_meetings.proofs.KnownLemmas.{none_known}
 use Rattle.line_meetings.proofs.TellingLemmas.{told_all, told_enough, told_next}
 use Rattle.line_meetings.proofs.finding.put_all_close.Goals as goal

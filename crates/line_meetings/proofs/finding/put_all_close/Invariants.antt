@@ -1,6 +1,6 @@
 use Rattle.std.proofs.Common.{drop}
 use Rattle.std.specs.HashMap.{get}
-use Rattle.line_meetings.specs.KnownSteps.{AreKnown, is_same_point_key}
+use Rattle.line_meetings.specs.KnownPoints.{AreKnown, is_same_point_key}
 use Rattle.line_meetings.specs.Meetings.{close_to}
 use Rattle.line_meetings.proofs.TellingLemmas.{TellsFrom}
 use Rattle.line_meetings.proofs.Names.{flat_map}

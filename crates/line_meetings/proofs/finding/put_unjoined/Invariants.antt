@@ -1,7 +1,7 @@
 use Rattle.std.proofs.Common.{◌≡◌, ◌++◌, drop, filter, map, not}
 use Rattle.std.specs.HashMap.{get}
 use Rattle.line_meetings.specs.Joints.{are_joined}
-use Rattle.line_meetings.specs.KnownSteps.{AreKnown, is_same_point_key}
+use Rattle.line_meetings.specs.KnownPoints.{AreKnown, is_same_point_key}
 use Rattle.line_meetings.specs.Meetings.{close_points}
 use Rattle.line_meetings.proofs.finding.put_unjoined.Given as goal
 
