@@ -37,8 +37,8 @@ AreJoinedEnds joints [] = Unit {0}
 AreJoinedEnds joints (t ∷ rest) =
     (are_joined_by joints t.a t.b ≡ true) × AreJoinedEnds joints rest
 
--- Points that joints join to p, where some joints are left and some were left for later. A test that
--- the points pass, and those joints alike, tests both ends of all joints alike.
+-- Points that joints join to p, where some joints are left and some were left for later. A test
+-- that the points pass, and those joints alike, tests both ends of all joints alike.
 pub record IsGrowing (joints : List Joint) (p : GridPoint) (left later : List Joint)
     (places : List Place) : Type 0 where
   pub begins : is_among places p ≡ true
@@ -66,7 +66,8 @@ abbrev pub PutsOther : Joint → (old new : List Place) → (has : Bool) → Typ
 PutsOther t old new true = PutsEnds t old new
 PutsOther t old new false = HasNoEnd t old new
 
--- The other ends of joints are put to points. Where none is, those left have both ends there or none.
+-- The other ends of joints are put to points. Where none is, those left have both ends there or
+-- none.
 pub record Grows (left : List Joint) (old : List Place) (has_grown : Bool) (later : List Joint)
     (new : List Place) : Type 0 where
   pub kept : (joints : List Joint) (p : GridPoint) → IsGrowing joints p left [] old
