@@ -1,3 +1,4 @@
+mod comparisons;
 mod cut_drawings;
 mod drawings;
 mod joined_drawings;

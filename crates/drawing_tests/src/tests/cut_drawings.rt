@@ -1,5 +1,6 @@
 ghost use Rattle.std.specs.Prelude.{◌<◌};
 
+use super::comparisons::{compare, compare_row};
 use super::drawings::DrawingPart::{self, Block, Line};
 use super::drawings::grown;
 use crate::points_of;
@@ -169,16 +170,16 @@ fn is_wanted(alloc: Global, piece: &Piece, wanted: &Wanted) -> Result<bool, Draw
 
 #[test]
 fn a_drawing_is_cut_into_pieces_with_their_graphs(rt: HostRuntime) -> Result<(), Fail> {
-    for (index, (parts, wanted)) in TABLE.into_iter().enumerate() {
+    for (index, (parts, wanted)) in TABLE.iter().enumerate() {
         let d = grown(rt.alloc(), 10, parts).ok().ok_or("a drawing")?;
         let cut = pieces(rt.alloc(), &d).ok().ok_or("no memory")?;
-        assert_eq!(rt; cut.len(), wanted.len(), "{index}");
+        compare_row(&rt, index, cut.len(), wanted.len());
         for (number, piece) in cut.as_slice().iter().enumerate() {
             let Some(one) = wanted.get(number) else {
                 continue;
             };
             let same = is_wanted(rt.alloc(), piece, one).ok().ok_or("no memory")?;
-            assert!(rt; same, "{index} {number}");
+            compare_row(&rt, (index, number), same, true);
         }
     }
     Ok(())
@@ -232,7 +233,7 @@ fn is_column(alloc: Global, piece: &Piece, block: u32, first: u32) -> Result<boo
 fn sixty_lines_in_three_blocks_are_cut_into_twelve_columns(rt: HostRuntime) -> Result<(), Fail> {
     let d = columns(rt.alloc()).ok().ok_or("a drawing")?;
     let cut = pieces(rt.alloc(), &d).ok().ok_or("no memory")?;
-    assert_eq!(rt; cut.len(), 12);
+    compare(&rt, cut.len(), 12);
     for (number, piece) in cut.as_slice().iter().enumerate() {
         if number >= 12 {
             continue;
@@ -242,14 +243,16 @@ fn sixty_lines_in_three_blocks_are_cut_into_twelve_columns(rt: HostRuntime) -> R
         let same = is_column(rt.alloc(), piece, block, first)
             .ok()
             .ok_or("no memory")?;
-        assert!(rt; same, "{number}");
+        compare_row(&rt, number, same, true);
         let lowest = Point {
             x: (column * 100) as i32,
             y: 50,
         };
-        assert!(rt;
+        compare_row(
+            &rt,
+            number,
             piece.junctions.as_slice().get(5) == Some(&lowest),
-            "{number}"
+            true,
         );
     }
     Ok(())

@@ -1,3 +1,4 @@
+use super::comparisons::{compare, compare_row};
 use crate::points_of;
 use design_model::{Point, Points};
 use line_graph::{DrawKind, Drawing, DrawingMaker, MAX_STEP, is_label_word, needles};
@@ -42,91 +43,102 @@ fn fault(alloc: Global, step: u32, parts: &[DrawingPart]) -> Option<DrawKind> {
 
 /// Compares a drawing with the two squares, except for its label.
 pub fn compare_squares(rt: &impl Abort, d: &Drawing) {
-    assert_eq!(rt; d.step(), 30);
-    assert!(rt; d.threads() == [3, 9].as_slice());
-    assert_eq!(rt; d.block_count(), 2);
-    assert_eq!(rt; d.line_count(), 2);
+    compare(rt, d.step(), 30);
+    compare(rt, d.threads(), &[3, 9]);
+    compare(rt, d.block_count(), 2);
+    compare(rt, d.line_count(), 2);
     if d.block_count() == 2 && d.line_count() == 2 {
-        assert_eq!(rt; d.block_thread(1), 9);
-        assert_eq!(rt; d.line_block(0), 0);
-        assert_eq!(rt; d.line_block(1), 1);
-        assert!(rt; d.line_points(1).first() == Some(&Point { x: 300, y: 0 }));
+        compare(rt, d.block_thread(1), 9);
+        compare(rt, d.line_block(0), 0);
+        compare(rt, d.line_block(1), 1);
+        compare(
+            rt,
+            d.line_points(1).first() == Some(&Point { x: 300, y: 0 }),
+            true,
+        );
     }
 }
 
 #[test]
 fn a_drawing_has_the_blocks_and_lines_that_it_grew_by(rt: HostRuntime) -> Result<(), Fail> {
     let d = grown(rt.alloc(), 30, &SQUARES).ok().ok_or("two squares")?;
-    assert!(rt; d.label() == b"rose".as_slice());
+    compare(&rt, d.label(), b"rose");
     compare_squares(&rt, &d);
     Ok(())
 }
 
+/// Words, and whether they are labels.
+const LABELS: [(&str, bool); 6] = [
+    ("", true),
+    ("rose~!", true),
+    ("abcdefghijklmnop", true),
+    ("abcdefghijklmnopq", false),
+    ("a b", false),
+    ("a\u{7f}", false),
+];
+
 #[test]
 fn a_label_is_a_word_of_sixteen_signs_or_fewer(rt: HostRuntime) {
-    let table = [
-        ("", true),
-        ("rose~!", true),
-        ("abcdefghijklmnop", true),
-        ("abcdefghijklmnopq", false),
-        ("a b", false),
-        ("a\u{7f}", false),
-    ];
-    for (word, wanted) in table {
-        assert_eq!(rt; is_label_word(word.as_bytes()), wanted, "{word}");
+    for (word, wanted) in &LABELS {
+        compare_row(&rt, *word, is_label_word(word.as_bytes()), *wanted);
     }
 }
+
+/// Parts of a drawing, and why there is none.
+const FAULTS: [(&[DrawingPart], Option<DrawKind>); 10] = [
+    (&[], Some(DrawKind::NoBlock)),
+    (&[Line(&[(30_001, 0)])], Some(DrawKind::NoBlock)),
+    (&[Block(1)], Some(DrawKind::EmptyBlock)),
+    (&[Block(1), Block(2)], Some(DrawKind::EmptyBlock)),
+    (
+        &[Block(1), Line(&[(0, -30_001)])],
+        Some(DrawKind::OutOfRange),
+    ),
+    (
+        &[Block(1), Line(&[(0, 0), (0, 0), (30_001, 0)])],
+        Some(DrawKind::OutOfRange),
+    ),
+    (&[Block(1), Line(&[(7, 7)])], Some(DrawKind::FewPoints)),
+    (
+        &[Block(1), Line(&[(0, 0), (7, 7), (7, 7)])],
+        Some(DrawKind::RepeatedPoint),
+    ),
+    (&[Block(1), Line(&[(-30_000, 0), (30_000, 0)])], None),
+    (&SQUARES, None),
+];
 
 #[test]
 fn the_first_fault_is_told(rt: HostRuntime) {
-    let table: [(&[DrawingPart], Option<DrawKind>); 10] = [
-        (&[], Some(DrawKind::NoBlock)),
-        (&[Line(&[(30_001, 0)])], Some(DrawKind::NoBlock)),
-        (&[Block(1)], Some(DrawKind::EmptyBlock)),
-        (&[Block(1), Block(2)], Some(DrawKind::EmptyBlock)),
-        (
-            &[Block(1), Line(&[(0, -30_001)])],
-            Some(DrawKind::OutOfRange),
-        ),
-        (
-            &[Block(1), Line(&[(0, 0), (0, 0), (30_001, 0)])],
-            Some(DrawKind::OutOfRange),
-        ),
-        (&[Block(1), Line(&[(7, 7)])], Some(DrawKind::FewPoints)),
-        (
-            &[Block(1), Line(&[(0, 0), (7, 7), (7, 7)])],
-            Some(DrawKind::RepeatedPoint),
-        ),
-        (&[Block(1), Line(&[(-30_000, 0), (30_000, 0)])], None),
-        (&SQUARES, None),
-    ];
-    for (index, (parts, wanted)) in table.into_iter().enumerate() {
-        assert!(rt; fault(rt.alloc(), 2_047, parts) == wanted, "{index}");
+    for (index, (parts, wanted)) in FAULTS.iter().enumerate() {
+        compare_row(&rt, index, fault(rt.alloc(), 2_047, parts) == *wanted, true);
     }
 }
 
+/// The longest step, the places of a line, the number of its needles, and the second of them.
+const NEEDLES: [(u32, &[(i32, i32)], usize, (i32, i32)); 3] = [
+    (
+        30,
+        &[(0, 0), (30, 0), (30, 30), (0, 30), (0, 0)],
+        5,
+        (30, 0),
+    ),
+    (10, &[(0, 0), (40, 0), (0, 0)], 9, (10, 0)),
+    (3, &[(0, 0), (-7, 3), (0, 0)], 7, (-3, 1)),
+];
+
 #[test]
 fn the_needles_of_a_line_are_its_points_and_those_between(rt: HostRuntime) -> Result<(), Fail> {
-    let table: [(u32, &[(i32, i32)], usize, (i32, i32)); 3] = [
-        (
-            30,
-            &[(0, 0), (30, 0), (30, 30), (0, 30), (0, 0)],
-            5,
-            (30, 0),
-        ),
-        (10, &[(0, 0), (40, 0), (0, 0)], 9, (10, 0)),
-        (3, &[(0, 0), (-7, 3), (0, 0)], 7, (-3, 1)),
-    ];
-    for (step, places, count, (x, y)) in table {
-        let d = grown(rt.alloc(), step, &[Block(255), Line(places)])
+    for (step, places, count, (x, y)) in &NEEDLES {
+        let d = grown(rt.alloc(), *step, &[Block(255), Line(*places)])
             .ok()
             .ok_or("a drawing")?;
         if d.line_count() == 0 {
             continue;
         }
         let points = needles(rt.alloc(), &d, 0).ok().ok_or("no memory")?;
-        assert_eq!(rt; points.len(), count, "{step}");
-        assert!(rt; points.as_slice().get(1) == Some(&Point { x, y }), "{step}");
+        compare_row(&rt, *step, points.len(), *count);
+        let second = Point { x: *x, y: *y };
+        compare_row(&rt, *step, points.as_slice().get(1), Some(&second));
     }
     Ok(())
 }
@@ -148,37 +160,46 @@ fn add_lines(
     Ok(())
 }
 
+const SHORT: [(i32, i32); 2] = [(0, 0), (1, 0)];
+
+const LONG: [(i32, i32); 2] = [(0, 0), (20_000, 0)];
+
+/// The places of lines, their number, whether each has a block of its own, and why there is no such drawing.
+const MOST: [(&[(i32, i32)], u32, bool, Option<DrawKind>); 6] = [
+    (&SHORT, 255, true, None),
+    (&SHORT, 256, true, Some(DrawKind::TooManyBlocks)),
+    (&SHORT, 1_024, false, None),
+    (&SHORT, 1_025, false, Some(DrawKind::TooManyLines)),
+    (&LONG, 10, false, None),
+    (&LONG, 11, false, Some(DrawKind::TooMuchCost)),
+];
+
 #[test]
 fn a_drawing_has_so_many_blocks_and_lines_and_steps(rt: HostRuntime) {
-    let short: &[(i32, i32)] = &[(0, 0), (1, 0)];
-    let long: &[(i32, i32)] = &[(0, 0), (20_000, 0)];
-    let table = [
-        (short, 255, true, None),
-        (short, 256, true, Some(DrawKind::TooManyBlocks)),
-        (short, 1_024, false, None),
-        (short, 1_025, false, Some(DrawKind::TooManyLines)),
-        (long, 10, false, None),
-        (long, 11, false, Some(DrawKind::TooMuchCost)),
-    ];
-    for (places, times, apart, wanted) in table {
+    for (places, times, apart, wanted) in &MOST {
         let mut maker = DrawingMaker::new(rt.alloc(), b"", 1);
-        let added = add_lines(rt.alloc(), &mut maker, places, times, apart);
-        assert!(rt; added.err() == wanted, "{times}");
+        let added = add_lines(rt.alloc(), &mut maker, places, *times, *apart);
+        compare_row(&rt, *times, added.err() == *wanted, true);
     }
 }
 
+/// Numbers of pairs of points in a line, and why there is no such drawing.
+const PAIRS: [(u32, Option<DrawKind>); 2] = [
+    (32_768, None),
+    (32_769, Some(DrawKind::TooManyPoints)),
+];
+
 #[test]
 fn a_drawing_has_so_many_points(rt: HostRuntime) -> Result<(), Fail> {
-    let table = [(32_768, None), (32_769, Some(DrawKind::TooManyPoints))];
-    for (times, wanted) in table {
+    for (times, wanted) in &PAIRS {
         let mut maker = DrawingMaker::new(rt.alloc(), b"", 2_047);
         maker.add_block(1).ok().ok_or("a block")?;
         let mut line = Points::new(rt.alloc());
-        for _ in 0..times {
+        for _ in 0..*times {
             let pair = [Point { x: 0, y: 0 }, Point { x: 1, y: 0 }];
             line.append(pair.as_slice()).ok().ok_or("no memory")?;
         }
-        assert!(rt; maker.add_line(line).err() == wanted, "{times}");
+        compare_row(&rt, *times, maker.add_line(line).err() == *wanted, true);
     }
     Ok(())
 }

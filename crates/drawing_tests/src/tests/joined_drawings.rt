@@ -1,3 +1,4 @@
+use super::comparisons::compare;
 use super::drawings::DrawingPart::{Block, Line};
 use super::drawings::grown;
 use crate::points_of;
@@ -16,16 +17,18 @@ fn a_joined_drawing_has_the_sections_of_its_lines(rt: HostRuntime) -> Result<(),
         Line(&[(10, -10), (10, 0), (10, 10)]),
     ];
     let d = grown(rt.alloc(), 10, &cross).ok().ok_or("a drawing")?;
-    assert!(rt; !joined(&d));
+    compare(&rt, !joined(&d), true);
     let whole = join(rt.alloc(), &d).ok().ok_or("no memory")?;
-    assert!(rt; joined(&whole));
-    assert_eq!(rt; whole.block_count(), 2);
-    assert_eq!(rt; whole.line_count(), 5);
+    compare(&rt, joined(&whole), true);
+    compare(&rt, whole.block_count(), 2);
+    compare(&rt, whole.line_count(), 5);
     if whole.line_count() == 5 {
-        assert_eq!(rt; whole.line_block(0), 0);
-        assert_eq!(rt; whole.line_block(4), 1);
-        assert!(rt;
-            whole.line_points(4) == [Point { x: 10, y: 0 }, Point { x: 10, y: 10 }].as_slice()
+        compare(&rt, whole.line_block(0), 0);
+        compare(&rt, whole.line_block(4), 1);
+        compare(
+            &rt,
+            whole.line_points(4) == [Point { x: 10, y: 0 }, Point { x: 10, y: 10 }].as_slice(),
+            true,
         );
     }
     Ok(())
@@ -67,11 +70,15 @@ fn sections_have_so_many_points(rt: HostRuntime) -> Result<(), Fail> {
         .ok()
         .ok_or("a drawing")?;
     let whole = join(rt.alloc(), &most).ok().ok_or("no memory")?;
-    assert_eq!(rt; whole.line_count(), 19);
+    compare(&rt, whole.line_count(), 19);
     let more = long_drawing(rt.alloc(), 65_536 - 10 - 16)
         .ok()
         .ok_or("a drawing")?;
-    assert!(rt; join(rt.alloc(), &more).err() == Some(DrawKind::TooManyPoints));
+    compare(
+        &rt,
+        join(rt.alloc(), &more).err() == Some(DrawKind::TooManyPoints),
+        true,
+    );
     Ok(())
 }
 
@@ -87,15 +94,22 @@ fn shuttle(alloc: Global, count: i32) -> Result<Drawing, DrawKind> {
     maker.finish()
 }
 
+/// Numbers of points with too many sections between them.
+const TOO_MANY: [i32; 2] = [1_026, 65_536];
+
 #[test]
 fn a_drawing_has_so_many_sections(rt: HostRuntime) -> Result<(), Fail> {
     let most = shuttle(rt.alloc(), 1_025).ok().ok_or("a drawing")?;
     let whole = join(rt.alloc(), &most).ok().ok_or("no memory")?;
-    assert_eq!(rt; whole.line_count(), 1_024);
+    compare(&rt, whole.line_count(), 1_024);
     // Too many lines come before too many points.
-    for count in [1_026, 65_536] {
-        let more = shuttle(rt.alloc(), count).ok().ok_or("a drawing")?;
-        assert!(rt; join(rt.alloc(), &more).err() == Some(DrawKind::TooManyLines));
+    for count in &TOO_MANY {
+        let more = shuttle(rt.alloc(), *count).ok().ok_or("a drawing")?;
+        compare(
+            &rt,
+            join(rt.alloc(), &more).err() == Some(DrawKind::TooManyLines),
+            true,
+        );
     }
     Ok(())
 }

@@ -1,7 +1,8 @@
+use super::comparisons::compare;
 use super::sections::{Places, lines};
 use MeetingKind::{BesideSegment, ClosePoints, Crossing, OnSegment, Overlap, Repeat};
 use design_model::Point;
-use line_meetings::{MeetingKind, find_meetings};
+use line_meetings::{Meeting, MeetingKind, find_meetings};
 use std::test::Fail;
 
 /// The gap, lines, and the meetings that are found: of each its kind, its two lines, and its point.
@@ -80,18 +81,27 @@ const CASES: [Case; 9] = [
 
 #[test]
 fn each_meeting_is_found_and_no_other(rt: HostRuntime) -> Result<(), Fail> {
-    for (gap, drawn, meetings) in CASES {
+    for (gap, drawn, meetings) in &CASES {
         let drawn = lines(rt.alloc(), drawn)?;
-        let found = find_meetings(rt.alloc(), &drawn, gap)?;
-        assert_eq!(rt; found.len(), meetings.len());
+        let found = find_meetings(rt.alloc(), &drawn, *gap)?;
+        compare(&rt, found.len(), meetings.len());
         for (meeting, (kind, line, other, (x, y))) in found.as_slice().iter().zip(meetings.iter()) {
-            assert_eq!(rt; number_of(meeting.kind), number_of(*kind));
-            assert_eq!(rt; meeting.line, *line);
-            assert_eq!(rt; meeting.other, *other);
-            assert!(rt; meeting.from == Point { x: *x, y: *y });
+            let place = Point { x: *x, y: *y };
+            let wanted = (number_of(*kind), *line, *other, place);
+            compare(&rt, parts(meeting), wanted);
         }
     }
     Ok(())
+}
+
+/// Returns the number of the kind of a meeting, its two lines and its point.
+fn parts(meeting: &Meeting) -> (u8, usize, usize, Point) {
+    (
+        number_of(meeting.kind),
+        meeting.line,
+        meeting.other,
+        meeting.from,
+    )
 }
 
 fn number_of(kind: MeetingKind) -> u8 {

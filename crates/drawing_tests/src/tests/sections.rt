@@ -1,3 +1,4 @@
+use super::comparisons::compare;
 use crate::points_of;
 use design_model::Memory;
 use line_sections::{Line, are_whole, sections};
@@ -95,9 +96,9 @@ fn lines_are_cut_where_their_block_lists_a_point_again(rt: HostRuntime) -> Resul
         let before = lines(rt.alloc(), case.before).ok().ok_or("no memory")?;
         let after = lines(rt.alloc(), case.after).ok().ok_or("no memory")?;
         let cut = sections(rt.alloc(), &before).ok().ok_or("no memory")?;
-        assert!(rt; are_same(&cut, &after));
-        assert!(rt; are_whole(&cut));
-        assert_eq!(rt; are_whole(&before), are_same(&before, &after));
+        compare(&rt, are_same(&cut, &after), true);
+        compare(&rt, are_whole(&cut), true);
+        compare(&rt, are_whole(&before), are_same(&before, &after));
     }
     Ok(())
 }

@@ -1,3 +1,4 @@
+use super::comparisons::{compare, compare_row};
 use super::drawings::compare_squares;
 use design_model::{Bytes, MAX_FILE};
 use drawing_text::{
@@ -53,25 +54,27 @@ fn a_drawing_of_two_blocks_is_read_and_printed_again(rt: HostRuntime) -> Result<
         .ok()
         .ok_or("two squares")?;
     let text = printed(rt.alloc(), &d).ok_or("no text")?;
-    assert!(rt; text.as_slice() == SQUARES.as_bytes());
+    compare(&rt, text.as_slice(), SQUARES.as_bytes());
     compare_squares(&rt, &d);
     Ok(())
 }
 
+/// Spellings of one drawing.
+const SPELLINGS: [&str; 3] = [
+    "redwork 1\nname Rose\ncolor 7\nline 0 0 5 5",
+    "\n# a rose\n\tredwork \t 1\r\nname Rose\r\n  # red\r\ncolor 007\r\nline -0 0 05 5\r\n",
+    "redwork 1\nstep 25\nname Rose\n\ncolor 7\nline 0 0 5 5\n\n#\n \n",
+];
+
 #[test]
 fn texts_of_any_spelling_are_read(rt: HostRuntime) -> Result<(), Fail> {
-    let table = [
-        "redwork 1\nname Rose\ncolor 7\nline 0 0 5 5",
-        "\n# a rose\n\tredwork \t 1\r\nname Rose\r\n  # red\r\ncolor 007\r\nline -0 0 05 5\r\n",
-        "redwork 1\nstep 25\nname Rose\n\ncolor 7\nline 0 0 5 5\n\n#\n \n",
-    ];
-    for text in table {
+    for text in &SPELLINGS {
         let d = drawing(rt.alloc(), text.as_bytes())
             .ok()
             .ok_or("a drawing")?;
         let plain = printed(rt.alloc(), &d).ok_or("no text")?;
         let wanted = "redwork 1\nname Rose\nstep 25\ncolor 7\nline 0 0 5 5\n";
-        assert!(rt; plain.as_slice() == wanted.as_bytes(), "{text}");
+        compare_row(&rt, *text, plain.as_slice(), wanted.as_bytes());
     }
     Ok(())
 }
@@ -89,88 +92,127 @@ line 10 -10 10 0
 line 10 0 10 10
 ";
 
+/// Headers, and the number of the lines that are read after them.
+const HEADERS: [(&str, u32); 2] = [("redwork 1\n", 2), ("redwork 2\n", 4)];
+
 #[test]
 fn lines_of_version_2_meet_at_shared_points(rt: HostRuntime) -> Result<(), Fail> {
-    for (header, lines) in [("redwork 1\n", 2), ("redwork 2\n", 4)] {
+    for (header, lines) in &HEADERS {
         let text = repeated(rt.alloc(), header.as_bytes(), CROSSING.as_bytes(), 1, b"")
             .ok()
             .ok_or("no memory")?;
         let d = drawing(rt.alloc(), text.as_slice())
             .ok()
             .ok_or("a drawing")?;
-        assert_eq!(rt; d.line_count(), lines);
+        compare(&rt, d.line_count(), *lines);
         if text.len() as u64 <= MAX_FILE {
             let whole = read_as2(rt.alloc(), text.as_slice())
                 .ok()
                 .ok_or("a drawing")?;
             let plain = print_drawing2(rt.alloc(), &whole).ok().ok_or("no memory")?;
-            assert!(rt; plain.as_slice() == CROSSED.as_bytes(), "{header}");
+            compare_row(&rt, *header, plain.as_slice(), CROSSED.as_bytes());
         }
     }
     Ok(())
 }
 
+/// Texts, and the line and the kind of their first fault.
+const FAULTS: [(&str, u32, DrawKind); 27] = [
+    // Faults of a head.
+    ("", 1, BadHeader),
+    ("# a\n\n", 3, BadHeader),
+    ("redwork 01\n", 1, BadHeader),
+    ("redwork 4\n", 1, BadHeader),
+    ("redwork 2 1\n", 1, BadHeader),
+    ("redwork 2\nfoo\n", 2, BadWord),
+    ("redwork 2\nname a\n", 3, NoBlock),
+    ("redwork 1\nfoo\n", 2, BadWord),
+    ("redwork 1\nstep 5\nstep 5\n", 3, BadWord),
+    ("redwork 1\ncolor 1\nname a\n", 3, BadWord),
+    ("redwork 1\nname a\r\r\n", 2, BadWord),
+    ("redwork 1\nstep +5\n", 2, BadNumber),
+    ("redwork 1\nstep 99999999999999999999x\n", 2, BadNumber),
+    ("redwork 1\nstep 99999999999999999999\n", 2, OutOfRange),
+    ("redwork 1\nstep 2048\n", 2, OutOfRange),
+    // Faults of a block.
+    ("redwork 1\ncolor 256\n", 2, OutOfRange),
+    ("redwork 1\ncolor 1\n", 2, EmptyBlock),
+    ("redwork 1\ncolor 1\n#\ncolor 2\n", 2, EmptyBlock),
+    ("redwork 1\ncolor 1\nfoo\n", 3, BadWord),
+    ("redwork 1\ncolor 1\ncolor x\n", 3, BadNumber),
+    ("redwork 1\ncolor 1\nline 0 0\ncolor 2\n", 3, FewPoints),
+    ("redwork 1\nname a\n", 3, NoBlock),
+    ("redwork 1\nline 0 0 x\n", 2, NoBlock),
+    ("redwork 1\ncolor 1\nline 30001 x\n", 3, OutOfRange),
+    ("redwork 1\ncolor 1\nline x 30001\n", 3, BadNumber),
+    ("redwork 1\ncolor 1\nline 0 0 0 0 1\n", 3, FewPoints),
+    ("redwork 1\ncolor 1\nline 0 0 0 -0\n", 3, RepeatedPoint),
+];
+
 #[test]
 fn the_first_fault_of_a_text_is_told_with_its_line(rt: HostRuntime) {
-    let table = [
-        // Faults of a head.
-        ("", 1, BadHeader),
-        ("# a\n\n", 3, BadHeader),
-        ("redwork 01\n", 1, BadHeader),
-        ("redwork 4\n", 1, BadHeader),
-        ("redwork 2 1\n", 1, BadHeader),
-        ("redwork 2\nfoo\n", 2, BadWord),
-        ("redwork 2\nname a\n", 3, NoBlock),
-        ("redwork 1\nfoo\n", 2, BadWord),
-        ("redwork 1\nstep 5\nstep 5\n", 3, BadWord),
-        ("redwork 1\ncolor 1\nname a\n", 3, BadWord),
-        ("redwork 1\nname a\r\r\n", 2, BadWord),
-        ("redwork 1\nstep +5\n", 2, BadNumber),
-        ("redwork 1\nstep 99999999999999999999x\n", 2, BadNumber),
-        ("redwork 1\nstep 99999999999999999999\n", 2, OutOfRange),
-        ("redwork 1\nstep 2048\n", 2, OutOfRange),
-        // Faults of a block.
-        ("redwork 1\ncolor 256\n", 2, OutOfRange),
-        ("redwork 1\ncolor 1\n", 2, EmptyBlock),
-        ("redwork 1\ncolor 1\n#\ncolor 2\n", 2, EmptyBlock),
-        ("redwork 1\ncolor 1\nfoo\n", 3, BadWord),
-        ("redwork 1\ncolor 1\ncolor x\n", 3, BadNumber),
-        ("redwork 1\ncolor 1\nline 0 0\ncolor 2\n", 3, FewPoints),
-        ("redwork 1\nname a\n", 3, NoBlock),
-        ("redwork 1\nline 0 0 x\n", 2, NoBlock),
-        ("redwork 1\ncolor 1\nline 30001 x\n", 3, OutOfRange),
-        ("redwork 1\ncolor 1\nline x 30001\n", 3, BadNumber),
-        ("redwork 1\ncolor 1\nline 0 0 0 0 1\n", 3, FewPoints),
-        ("redwork 1\ncolor 1\nline 0 0 0 -0\n", 3, RepeatedPoint),
-    ];
-    for (text, number, kind) in table {
+    for (text, number, kind) in &FAULTS {
         let found = fault(rt.alloc(), text.as_bytes());
-        assert!(rt; found == (number, Some(kind)), "{text}");
+        compare_row(&rt, *text, found == (*number, Some(*kind)), true);
     }
 }
 
+const HEAD: &str = "redwork 1\n";
+
+const ONE_BLOCK: &str = "redwork 1\ncolor 1\n";
+
+const ONE_LINE: &str = "redwork 1\nstep 2047\ncolor 1\nline";
+
+const SHORT_STEPS: &str = "redwork 1\nstep 1\ncolor 1\n";
+
+/// A head, lines or points and their number, an end, and the first fault of that text.
+const MOST: [(&str, &str, u32, &str, u32, Option<DrawKind>); 9] = [
+    (HEAD, "color 1\nline 0 0 1 0\n", 255, "", 0, None),
+    (
+        HEAD,
+        "color 1\nline 0 0 1 0\n",
+        256,
+        "",
+        512,
+        Some(TooManyBlocks),
+    ),
+    (ONE_BLOCK, "line 0 0 1 0\n", 1_024, "", 0, None),
+    (
+        ONE_BLOCK,
+        "line 0 0 1 0\n",
+        1_025,
+        "",
+        1_027,
+        Some(TooManyLines),
+    ),
+    (ONE_LINE, " 0 0 1 0", 32_768, "\n", 0, None),
+    (
+        ONE_LINE,
+        " 0 0 1 0",
+        32_768,
+        " 0 0\n",
+        4,
+        Some(TooManyPoints),
+    ),
+    (ONE_LINE, " 0 0 1 0", 32_768, " 0 0 0\n", 4, Some(FewPoints)),
+    (SHORT_STEPS, "line 0 0 20000 0\n", 10, "", 0, None),
+    (
+        SHORT_STEPS,
+        "line 0 0 30000 0\n",
+        7,
+        "",
+        10,
+        Some(TooMuchCost),
+    ),
+];
+
 #[test]
 fn a_drawing_has_so_many_blocks_lines_points_and_steps(rt: HostRuntime) -> Result<(), Fail> {
-    let (blocks, block) = ("redwork 1\n", "color 1\nline 0 0 1 0\n");
-    let (lines, line) = ("redwork 1\ncolor 1\n", "line 0 0 1 0\n");
-    let (points, pair) = ("redwork 1\nstep 2047\ncolor 1\nline", " 0 0 1 0");
-    let steps = "redwork 1\nstep 1\ncolor 1\n";
-    let cases = [
-        (blocks, block, 255, "", 0, None),
-        (blocks, block, 256, "", 512, Some(TooManyBlocks)),
-        (lines, line, 1_024, "", 0, None),
-        (lines, line, 1_025, "", 1_027, Some(TooManyLines)),
-        (points, pair, 32_768, "\n", 0, None),
-        (points, pair, 32_768, " 0 0\n", 4, Some(TooManyPoints)),
-        (points, pair, 32_768, " 0 0 0\n", 4, Some(FewPoints)),
-        (steps, "line 0 0 20000 0\n", 10, "", 0, None),
-        (steps, "line 0 0 30000 0\n", 7, "", 10, Some(TooMuchCost)),
-    ];
-    for (head, middle, times, end, number, kind) in cases {
+    for (head, middle, times, end, number, kind) in &MOST {
         let (head, middle, end) = (head.as_bytes(), middle.as_bytes(), end.as_bytes());
-        let text = repeated(rt.alloc(), head, middle, times, end)?;
+        let text = repeated(rt.alloc(), head, middle, *times, end)?;
         let found = fault(rt.alloc(), text.as_slice());
-        assert!(rt; found == (number, kind), "{times} times {middle:?}");
+        compare_row(&rt, (*times, middle), found == (*number, *kind), true);
     }
     Ok(())
 }
@@ -181,8 +223,8 @@ fn the_longest_text_is_read_in_one_pass(rt: HostRuntime) -> Result<(), Fail> {
     let text = repeated(rt.alloc(), head, b"# sixteen bytes\n", 4_194_301, b"")
         .ok()
         .ok_or("no memory")?;
-    assert!(rt; text.len() as u64 > MAX_FILE - 32);
-    assert!(rt; fault(rt.alloc(), text.as_slice()) == (0, None));
+    compare(&rt, text.len() as u64 > MAX_FILE - 32, true);
+    compare(&rt, fault(rt.alloc(), text.as_slice()) == (0, None), true);
     Ok(())
 }
 
@@ -190,9 +232,9 @@ fn the_longest_text_is_read_in_one_pass(rt: HostRuntime) -> Result<(), Fail> {
 fn lines_are_read_as_they_are_drawn(rt: HostRuntime) -> Result<(), Fail> {
     let text = b"redwork 3\ncolor 1\nline 0 0 9 0 9 9\nline 9 -9 9 0\nend 5 5\n";
     let drawn = read_lines(rt.alloc(), text).ok().ok_or("lines")?;
-    assert_eq!(rt; drawn.drawing.line_count(), 2);
-    assert_eq!(rt; drawn.ends.len(), 1);
-    assert_eq!(rt; fault(rt.alloc(), text).0, 5);
+    compare(&rt, drawn.drawing.line_count(), 2);
+    compare(&rt, drawn.ends.len(), 1);
+    compare(&rt, fault(rt.alloc(), text).0, 5);
     Ok(())
 }
 
@@ -203,28 +245,32 @@ fn with_lines(alloc: Global, text: &[u8]) -> Option<LinesRead> {
     read_with_lines(alloc, text).ok()
 }
 
+/// Texts, the number of lines that are drawn, of the lines of the drawing, and of its ends.
+const TOGETHER: [(&str, (u32, u32, usize)); 3] = [
+    (
+        "redwork 1\ncolor 1\nline 0 0 9 0 9 9\nline 9 -9 9 0\n",
+        (2, 2, 0),
+    ),
+    (
+        "redwork 2\ncolor 1\nline 0 0 9 0 9 9\nline 9 -9 9 0\n",
+        (2, 3, 0),
+    ),
+    (
+        "redwork 3\ncolor 1\nline 0 0 9 0 9 9\nline 9 -9 9 0\nend 9 0\n",
+        (2, 3, 1),
+    ),
+];
+
 #[test]
 fn a_drawing_and_its_lines_are_read_together(rt: HostRuntime) -> Result<(), Fail> {
-    // The lines that are drawn, the lines of the drawing, and its ends.
-    let table = [
-        (
-            "redwork 1\ncolor 1\nline 0 0 9 0 9 9\nline 9 -9 9 0\n",
-            (2, 2, 0),
-        ),
-        (
-            "redwork 2\ncolor 1\nline 0 0 9 0 9 9\nline 9 -9 9 0\n",
-            (2, 3, 0),
-        ),
-        (
-            "redwork 3\ncolor 1\nline 0 0 9 0 9 9\nline 9 -9 9 0\nend 9 0\n",
-            (2, 3, 1),
-        ),
-    ];
-    for (text, (drawn, joined, ends)) in table {
+    for (text, wanted) in &TOGETHER {
         let read = with_lines(rt.alloc(), text.as_bytes()).ok_or("lines")?;
-        assert_eq!(rt; read.drawn.drawing.line_count(), drawn);
-        assert_eq!(rt; read.drawing.line_count(), joined);
-        assert_eq!(rt; read.drawing.ends().len(), ends);
+        let found = (
+            read.drawn.drawing.line_count(),
+            read.drawing.line_count(),
+            read.drawing.ends().len(),
+        );
+        compare(&rt, found, *wanted);
     }
     Ok(())
 }

@@ -1,3 +1,4 @@
+use super::comparisons::compare_row;
 use design_model::{Command, Design, ModelFault, Point};
 use line_graph::{DrawKind, Drawing};
 use std::alloc::Global;
@@ -46,8 +47,10 @@ fn rows(alloc: Global, points: u32) -> Result<Design, ModelFault> {
     Ok(design)
 }
 
-/// The number of blocks, lines and points, or the limit that is exceeded.
-fn counts(traced: Result<Drawing, TraceFault>) -> Result<(u32, u32, usize), Option<DrawKind>> {
+/// The number of blocks, lines and points of a traced design, or the limit that is exceeded.
+type Counts = Result<(u32, u32, usize), Option<DrawKind>>;
+
+fn counts(traced: Result<Drawing, TraceFault>) -> Counts {
     match traced {
         Ok(drawing) => {
             let mut points: usize = 0;
@@ -61,20 +64,36 @@ fn counts(traced: Result<Drawing, TraceFault>) -> Result<(u32, u32, usize), Opti
     }
 }
 
+const BLOCKS: [(u32, Counts); 2] = [
+    (255, Ok((255, 255, 510))),
+    (256, Err(Some(DrawKind::TooManyBlocks))),
+];
+
+const STARS: [(u32, Counts); 3] = [
+    (512, Ok((1, 1_024, 2_048))),
+    (513, Err(Some(DrawKind::TooManyLines))),
+    (1_025, Err(Some(DrawKind::TooManyLines))),
+];
+
+const ROWS: [(u32, Counts); 2] = [
+    (65_536, Ok((1, 1, 65_536))),
+    (65_537, Err(Some(DrawKind::TooManyPoints))),
+];
+
 #[test]
 fn a_design_at_a_limit_is_traced_and_one_beyond_is_not(rt: HostRuntime) -> Result<(), Fail> {
     let alloc = rt.alloc();
-    let table = [
-        (blocks(alloc, 255)?, Ok((255, 255, 510))),
-        (blocks(alloc, 256)?, Err(Some(DrawKind::TooManyBlocks))),
-        (star(alloc, 512)?, Ok((1, 1_024, 2_048))),
-        (star(alloc, 513)?, Err(Some(DrawKind::TooManyLines))),
-        (star(alloc, 1_025)?, Err(Some(DrawKind::TooManyLines))),
-        (rows(alloc, 65_536)?, Ok((1, 1, 65_536))),
-        (rows(alloc, 65_537)?, Err(Some(DrawKind::TooManyPoints))),
-    ];
-    for (design, wanted) in table.iter() {
-        assert!(rt; counts(trace(alloc, design)) == *wanted);
+    for (count, wanted) in &BLOCKS {
+        let design = blocks(alloc, *count)?;
+        compare_row(&rt, *count, counts(trace(alloc, &design)) == *wanted, true);
+    }
+    for (count, wanted) in &STARS {
+        let design = star(alloc, *count)?;
+        compare_row(&rt, *count, counts(trace(alloc, &design)) == *wanted, true);
+    }
+    for (points, wanted) in &ROWS {
+        let design = rows(alloc, *points)?;
+        compare_row(&rt, *points, counts(trace(alloc, &design)) == *wanted, true);
     }
     Ok(())
 }
