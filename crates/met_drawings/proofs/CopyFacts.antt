@@ -1,12 +1,17 @@
--- Worked values of lines without copies, in tenths of a millimetre.
-use Rattle.std.proofs.Common.{◌≡◌, ◌≢◌, ◌∙◌, ℕ, pos, true, false, List, [], ◌∷◌, ◌++◌, length, map, ap, sym, refl, arith}
+-- Worked values of lines without copies, and of meetings that are left, in tenths of a millimetre.
+use Rattle.std.proofs.Common.{◌≡◌, ◌≢◌, ◌∙◌, ℕ, pos, Bool, true, false, List, [], ◌∷◌, ◌++◌, length, map, ap, sym, refl, arith}
 use Rattle.design_model.specs.declared.point.Point.{Point}
 use Rattle.line_graph.specs.declared.draw_kind.DrawKind.TheVariants as kind
+use Rattle.line_meetings.specs.declared.meeting.Meeting.{Meeting}
+use Rattle.line_meetings.specs.declared.meeting.MeetingKind.{MeetingKind}
+use Rattle.line_meetings.specs.declared.meeting.MeetingKind.TheVariants as meeting
 use Rattle.line_sections.specs.Lines.{LineValue}
 use Rattle.line_sections.specs.Sections.{lines_through}
 use Rattle.met_drawings.specs.Copies.{passed_segment, uncopied_lines}
+use Rattle.met_drawings.specs.MeetingCounts.{is_left}
 use Rattle.met_drawings.specs.MetDrawings.{meet_is_out_of_memory}
 use Rattle.met_drawings.specs.SegmentLaws.{SegmentsAreLeftOnce, first_segments, segments_passed}
+use Rattle.met_drawings.specs.declared.listed_meetings.MeetingRule.{MeetingRule}
 use Rattle.met_drawings.specs.declared.meet_fault.MeetFault.TheVariants as fault
 use Rattle.met_drawings.specs.declared.passed_segments.PassedSegment.{PassedSegment}
 
@@ -61,3 +66,31 @@ known_passed = refl
 pub known_out_of_memory : map meet_is_out_of_memory (fault.Limit kind.Memory ∷ fault.Limit kind.TooManyLines
     ∷ fault.Vanished (record { block = 0; line = 0 }) ∷ []) ≡ true ∷ false ∷ false ∷ []
 known_out_of_memory = refl
+
+-- a rule that lists crossings, or not, and keeps copies, or not; and a meeting of a kind
+abbrev rule_that : (lists_crossings keeps_copies : Bool) → MeetingRule
+rule_that lists_crossings keeps_copies =
+    record { gap = 3; lists_crossings = lists_crossings; keeps_copies = keeps_copies }
+
+abbrev meeting_of : MeetingKind → Meeting
+meeting_of kind = record {
+  kind = kind;
+  block = 0;
+  line = 0;
+  index = 0;
+  is_end = false;
+  other = 1;
+  other_index = 0;
+  from = at 0 0;
+  to = at 0 0;
+  distance = 0;
+}
+
+-- two close points, a crossing, and a segment that is drawn again
+abbrev left_by : MeetingRule → List Bool
+left_by rule = map (λ kind. is_left rule (meeting_of kind)) (meeting.ClosePoints ∷ meeting.Crossing ∷ meeting.Repeat ∷ [])
+
+-- a crossing is left only where crossings are listed, a copy only where copies aren't kept
+pub known_rules : (left_by (rule_that true false) ≡ true ∷ true ∷ true ∷ []) × (left_by (rule_that false false) ≡ true ∷ false ∷ true ∷ [])
+    × (left_by (rule_that true true) ≡ true ∷ true ∷ false ∷ []) × (left_by (rule_that false true) ≡ true ∷ false ∷ false ∷ [])
+known_rules = (refl, refl, refl, refl)
