@@ -5,6 +5,7 @@ use Rattle.std.specs.HashMap.{get}
 use Rattle.std.specs.HashSet.{contains}
 use Rattle.design_model.specs.declared.act.Act.TheVariants as act
 use Rattle.design_model.specs.declared.command.Command.TheVariants as command
+use Rattle.design_model.specs.declared.point.Point.{Point}
 use Rattle.design_picture.specs.ArrowSquares.{is_same_square}
 use Rattle.design_picture.specs.Hoops.{hoop_class, hoop_end, hoop_start, hoop_text, offset_text, hoop_key_end, hoop_key_start, rim_of, too_large}
 use Rattle.design_picture.specs.Passes.{is_same_stitch}
@@ -12,6 +13,7 @@ use Rattle.design_picture.specs.Pictures.{hoop_if_given, last_mark, design_top, 
 use Rattle.design_picture.specs.PlainPictures.{scale_description}
 use Rattle.design_picture.specs.ShownActs.{StrokesShowActs, plain_act, shown_act}
 use Rattle.design_picture.specs.declared.sewn_stitches.SewnStitches.{SewnStitches}
+use Rattle.design_picture.specs.declared.strokes.Stroke.TheVariants.{Begin, Float, Sewn, Trim}
 use Rattle.hoop_check.specs.declared.fitting.Fit.TheVariants as fit
 use Rattle.picture_parts.specs.Marks.{mark_text, shape_at}
 use Rattle.picture_parts.specs.Parts.{filled}
@@ -104,6 +106,19 @@ design = record {
   commands = command.Stitch (point (pos 0) (pos 0)) ∷ command.Stitch (point (pos 30) (pos 0)) ∷ command.Jump (point (pos 60) (pos 0))
       ∷ command.Stitch (point (pos 60) (pos 40)) ∷ command.Trim ∷ command.Stitch (point (pos 9) (pos 9)) ∷ command.Stop ∷ [];
 }
+
+-- where a stroke begins and where it ends
+abbrev from : Point
+from = point (pos 1) (pos 2)
+
+abbrev needle : Point
+needle = point (pos 3) (pos 4)
+
+-- a stroke of thread shows the needle where it ends
+pub known_acts : map shown_act (Begin (record { piece = 1; opens = true; from = from; at = needle }) ∷ Float from needle
+    ∷ Sewn (record { pass = 0; arrow = false; from = from; at = needle }) ∷ Trim needle ∷ [])
+    ≡ act.Needle needle false ∷ act.Needle needle false ∷ act.Needle needle false ∷ act.Trim ∷ []
+known_acts = refl
 
 -- each act is shown, and a float as its needle
 pub known_shown : StrokesShowActs → map shown_act (strokes_of design)
