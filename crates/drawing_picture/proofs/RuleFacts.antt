@@ -8,8 +8,8 @@ use Rattle.drawing_picture.specs.declared.labels.HalfPoint.{HalfPoint}
 use Rattle.drawing_picture.specs.declared.labels.Label.{Label}
 use Rattle.drawing_picture.specs.declared.place_marks.PlaceMark.TheVariants as place
 use Rattle.drawing_picture.specs.DrawingCaptions.{after_threads, grid_words, labels_words, more_blocks, shown_blocks}
-use Rattle.drawing_picture.specs.Grids.{coordinate_text, grid_around_extent, grid_step, line_count_of}
-use Rattle.drawing_picture.specs.LabelOrders.{label_row, labels_of_side}
+use Rattle.drawing_picture.specs.Grids.{coordinate_text, grid_around_extent, grid_step, line_count_of, rounded_up_to}
+use Rattle.drawing_picture.specs.LabelOrders.{label_key, label_row, labels_of_side}
 use Rattle.drawing_picture.specs.Labels.{labels_of_all, middle_of_line}
 use Rattle.drawing_picture.specs.PlaceMarks.{count_of_mark, mark_number, mark_of_kind, place_shape, place_text, stretch_shape}
 use Rattle.line_meetings.specs.declared.meeting.Meeting.{Meeting}
@@ -26,6 +26,10 @@ known_steps = refl
 pub known_grid : grid_around_extent (record { min = point (negsuc 4) (pos 0); max = point (pos 95) (pos 110) })
     ≡ record { step = 100; left = 29900; right = 30100; top = 30000; bottom = 30200 }
 known_grid = refl
+
+-- A multiple of the step stays, and what is above it goes up to the next one.
+pub known_rounded : map (rounded_up_to 100) (200 ∷ 201 ∷ 299 ∷ 300 ∷ []) ≡ 200 ∷ 300 ∷ 300 ∷ 300 ∷ []
+known_rounded = refl
 
 pub known_line_counts : (line_count_of 100 29900 30100 ≡ 3) × (line_count_of 500 30000 30000 ≡ 1)
 known_line_counts = (refl, refl)
@@ -56,6 +60,11 @@ met kind = record {
   to = at 1;
   distance = 0;
 }
+
+-- The marks are numbered in the order of the key.
+pub known_numbers : map mark_number (place.LooseEnd ∷ place.NearPoint ∷ place.Unlisted ∷ place.Crossing ∷ place.Overlap ∷ place.Repeat ∷ [])
+    ≡ 0 ∷ 1 ∷ 2 ∷ 3 ∷ 4 ∷ 5 ∷ []
+known_numbers = refl
 
 pub known_mark_counts : map (λ (n : ℕ). count_of_mark n (met meeting.Crossing ∷ met meeting.Repeat ∷ met meeting.Crossing
     ∷ met meeting.BesideSegment ∷ met meeting.Overlap ∷ met meeting.OnSegment ∷ met meeting.OnSegment ∷ met meeting.OnSegment ∷ []))
@@ -116,6 +125,10 @@ grid = record { step = 100; left = 30000; right = 30100; top = 30000; bottom = 3
 pub known_orders : (numbers (labels_of_side side.Left grid labels) ≡ 3 ∷ 1 ∷ 5 ∷ [])
     × (numbers (labels_of_side side.Right grid labels) ≡ 2 ∷ 4 ∷ [])
 known_orders = (refl, refl)
+
+-- A key counts rows of 131072 half steps, and x from the side.
+pub known_keys : map (λ s. label_key s (label 1 (record { x = 5; y = 3 }))) (side.Left ∷ side.Right ∷ []) ≡ 393221 ∷ 524283 ∷ []
+known_keys = refl
 
 -- A row is at what it names, unless that is taken or others need it.
 pub known_rows : (label_row 1000 0 500 3 ≡ 500) × (label_row 1000 600 500 3 ≡ 600) × (label_row 1000 0 900 3 ≡ 856)
