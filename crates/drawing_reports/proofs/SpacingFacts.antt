@@ -3,6 +3,7 @@ use Rattle.std.proofs.Common.{◌≡◌, ℕ, pos, negsuc, true, false, List, []
 use Rattle.design_model.specs.declared.point.Point.{Point}
 use Rattle.design_model.specs.Lengths.{length_of, square_of, whole_root}
 use Rattle.line_sections.specs.Lines.{LineValue}
+use Rattle.drawing_reports.specs.LengthSpans.{span_of}
 use Rattle.drawing_reports.specs.Spacings.{is_short_stitch, spacings_of_lines}
 
 abbrev at : ℕ → ℕ → Point
@@ -22,3 +23,8 @@ pub known_spacings : spacings_of_lines 10 lines
     ≡ record { block = 2; line = 1; stitches = 3; first = at 20 0; shortest = 300; longest = 500 } ∷ []
 unfolding length_of square_of whole_root
 known_spacings = refl
+
+-- The shortest segment of both lines is one of 0.3 mm, the longest one of 2 mm.
+pub known_span : span_of lines ≡ record { shortest = 300; longest = 2000 }
+unfolding length_of square_of whole_root
+known_span = refl
