@@ -1,7 +1,8 @@
 -- Worked mistakes of arguments: the first that isn't understood is named, with what is wrong with it.
-use Rattle.std.proofs.Common.{◌≡◌, ◌∷◌, [], ℕ, List, Some, None, codes, refl}
+use Rattle.std.proofs.Common.{◌≡◌, ◌∷◌, [], ℕ, List, Some, None, Ok, codes, refl}
 use Rattle.program_texts.specs.MistakenWords.{mistaken}
 use Rattle.drawing_commands.proofs.Names.{drawing_mistake, drawing_order_of, space_order, spacing, telling}
+use Rattle.drawing_commands.specs.Names.{parsed_gap}
 use Rattle.drawing_commands.specs.Usage.{drawing_usage_text}
 
 -- arguments of which one isn't understood
@@ -22,6 +23,10 @@ pub known_looks : IsMistaken (codes "look" ∷ []) (codes "look") (codes "needs 
     × IsMistaken (codes "look" ∷ codes "a" ∷ codes "101" ∷ codes "y" ∷ []) (codes "101") (codes "from 0 to 100")
     × IsMistaken (codes "look" ∷ codes "a" ∷ codes "100" ∷ codes "y" ∷ []) (codes "y") (codes "not understood")
 known_looks = ((refl, refl), (refl, refl), (refl, refl), (refl, refl), (refl, refl))
+
+-- the gap is 0.2 mm where none is given
+pub known_gaps : (parsed_gap [] ≡ Ok 2) × (parsed_gap (codes "0" ∷ []) ≡ Ok 0) × (parsed_gap (codes "100" ∷ []) ≡ Ok 100)
+known_gaps = (refl, refl, refl)
 
 pub known_snaps : IsMistaken (codes "snap" ∷ []) (codes "snap") (codes "needs a gap")
     × IsMistaken (codes "snap" ∷ codes "-1" ∷ []) (codes "-1") (codes "from 0 to 100")
