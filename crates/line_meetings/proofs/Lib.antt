@@ -2,6 +2,8 @@ pub mod Names
 mod BoundsFacts
 mod BoundsLemmas
 mod CopyLemmas
+mod CoreFacts
+mod CoreLemmas
 mod IndexFacts
 mod IndexLemmas
 mod JointLemmas

@@ -9,6 +9,7 @@ pub mod Telling
 pub mod Meetings
 -- Used only inside this crate.
 pub mod IndexedParts
+pub mod Cores
 pub mod JoinedPoints
 pub mod KnownPoints
 pub mod Sorting

@@ -1,9 +1,11 @@
 ghost use Rattle.line_meetings.specs.Bounds.{AreAllWithin};
+ghost use Rattle.line_meetings.specs.Cores.{HaveCore};
 ghost use Rattle.line_meetings.specs.IndexedParts.{matching_indexes};
 ghost use Rattle.line_meetings.specs.Queries.{query_bounds};
 ghost use Rattle.std.specs.Prelude.{◌≡◌, ◌++◌, IfOk, OnOk};
 
 use crate::bounds::Bounds;
+use crate::core::Core;
 use crate::indexed_part::IndexedPart;
 use crate::query::Query;
 use design_model::Memory;
@@ -14,11 +16,13 @@ use std::marker::Model;
 #[derive(Drop)]
 pub struct Group {
     bounds: Bounds,
+    core: Core,
     parts: Vec<IndexedPart>,
 }
 
 impl Model for Group {
     ghost use Rattle.line_meetings.specs.Bounds.{AreAllWithin};
+    ghost use Rattle.line_meetings.specs.Cores.{HaveCore};
     ghost use Rattle.line_meetings.specs.declared.indexed_part.IndexedPart.{IndexedPart};
     ghost use Rattle.std.specs.Prelude.{List};
 
@@ -26,7 +30,8 @@ impl Model for Group {
 
     ghost view = { λ g. g.parts.items };
 
-    ghost invariant = { λ g. AreAllWithin g.bounds g.parts.items };
+    ghost invariant = { λ g. AreAllWithin g.bounds g.parts.items
+        × HaveCore g.core g.parts.items };
 }
 
 impl Group {
@@ -35,9 +40,14 @@ impl Group {
         ensures { IfOk result (λ group. group ≡ some.now) }
     {
         let bounds = bounds_of_all(some);
+        let core = core_of_all(some);
         let mut parts = Vec::new(alloc);
         parts.extend_from_slice(some)?;
-        Ok(Group { bounds, parts })
+        Ok(Group {
+            bounds,
+            core,
+            parts,
+        })
     }
 
     /// Returns bounds that have the parts inside.
@@ -45,6 +55,13 @@ impl Group {
         ensures { AreAllWithin result self.now }
     {
         self.bounds
+    }
+
+    /// Returns a core that the parts have inside.
+    fn core(&self) -> Core
+        ensures { HaveCore result self.now }
+    {
+        self.core
     }
 
     /// Adds the indexes of the parts of the group that a question is about. The bounds are those of the question.
@@ -61,6 +78,9 @@ impl Group {
         if bounds.is_apart(&self.bounds()) {
             return Ok(());
         }
+        if query.leaves_out(bounds, &self.core()) {
+            return Ok(());
+        }
         put_matches_among(self.parts.as_slice(), query, bounds, found)
     }
 }
@@ -74,6 +94,17 @@ pub fn bounds_of_all(parts: &[IndexedPart]) -> Bounds
         bounds = bounds.united(&Bounds::of(&part.part));
     }
     bounds
+}
+
+/// Returns a core that parts have inside.
+pub fn core_of_all(parts: &[IndexedPart]) -> Core
+    ensures { HaveCore result parts.now }
+{
+    let mut core = Core::full();
+    for part in parts {
+        core = core.common(&Core::of(&part.part));
+    }
+    core
 }
 
 fn put_matches_among(

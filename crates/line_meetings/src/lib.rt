@@ -15,6 +15,7 @@
 mod area;
 mod bounds;
 mod copies;
+mod core;
 mod finding;
 mod group;
 mod indexed_part;

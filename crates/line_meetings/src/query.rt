@@ -1,7 +1,9 @@
+ghost use Rattle.line_meetings.specs.Cores.{asks_inside, is_core_out};
 ghost use Rattle.line_meetings.specs.Queries.{is_asked, is_earlier, is_earlier_point, answers_query, query_block, query_bounds};
-ghost use Rattle.std.specs.Prelude.{◌≡◌};
+ghost use Rattle.std.specs.Prelude.{◌≡◌, ◌&&◌};
 
 use crate::bounds::Bounds;
+use crate::core::Core;
 use crate::parts::is_line_end;
 use crate::touches::{do_cross, is_close, lies_beside, share_more};
 use drawing_review::LineSegment;
@@ -54,6 +56,24 @@ impl Query {
             Query::Beside { gap, point } => lies_beside(*gap, point.a, t),
             Query::Touching(s) => is_before(s, t) && (do_cross(s, t) || share_more(s, t)),
         }
+    }
+
+    fn is_inside(&self) -> bool
+        ensures { result ≡ asks_inside self.now }
+    {
+        match self {
+            Query::Close { .. } => false,
+            Query::Around { .. } => true,
+            Query::Beside { .. } => false,
+            Query::Touching(_) => false,
+        }
+    }
+
+    /// Returns whether the question is about no part that has a core inside. The bounds are those of the question.
+    pub fn leaves_out(&self, bounds: &Bounds, core: &Core) -> bool
+        ensures { result ≡ (asks_inside self.now && is_core_out core.now bounds.now) }
+    {
+        self.is_inside() && core.is_out(bounds)
     }
 
     /// Returns whether a part is one that the question is about. The bounds are those of the question.

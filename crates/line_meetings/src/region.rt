@@ -1,11 +1,13 @@
 ghost use Rattle.line_meetings.specs.Bounds.{AreAllWithin};
+ghost use Rattle.line_meetings.specs.Cores.{HaveCore};
 ghost use Rattle.line_meetings.specs.IndexedParts.{matching_indexes};
 ghost use Rattle.line_meetings.specs.Queries.{query_bounds};
 ghost use Rattle.std.specs.List.{flat_map};
 ghost use Rattle.std.specs.Prelude.{◌≡◌, ◌++◌, IfOk, OnOk};
 
 use crate::bounds::Bounds;
-use crate::group::{Group, bounds_of_all};
+use crate::core::Core;
+use crate::group::{Group, bounds_of_all, core_of_all};
 use crate::indexed_part::IndexedPart;
 use crate::query::Query;
 use design_model::Memory;
@@ -22,11 +24,13 @@ const REGION: usize = 256;
 #[derive(Drop)]
 pub struct Region {
     bounds: Bounds,
+    core: Core,
     groups: Vec<Group>,
 }
 
 impl Model for Region {
     ghost use Rattle.line_meetings.specs.Bounds.{AreAllWithin};
+    ghost use Rattle.line_meetings.specs.Cores.{HaveCore};
     ghost use Rattle.line_meetings.specs.declared.indexed_part.IndexedPart.{IndexedPart};
     ghost use Rattle.std.specs.List.{flat_map};
     ghost use Rattle.std.specs.Prelude.{List};
@@ -35,7 +39,8 @@ impl Model for Region {
 
     ghost view = { λ r. flat_map (λ g. g) r.groups.items };
 
-    ghost invariant = { λ r. AreAllWithin r.bounds (flat_map (λ g. g) r.groups.items) };
+    ghost invariant = { λ r. AreAllWithin r.bounds (flat_map (λ g. g) r.groups.items)
+        × HaveCore r.core (flat_map (λ g. g) r.groups.items) };
 }
 
 impl Region {
@@ -44,8 +49,13 @@ impl Region {
         ensures { IfOk result (λ region. region ≡ some.now) }
     {
         let bounds = bounds_of_all(some);
+        let core = core_of_all(some);
         let groups = groups(alloc, some)?;
-        Ok(Region { bounds, groups })
+        Ok(Region {
+            bounds,
+            core,
+            groups,
+        })
     }
 
     /// Returns bounds that have the parts inside.
@@ -53,6 +63,13 @@ impl Region {
         ensures { AreAllWithin result self.now }
     {
         self.bounds
+    }
+
+    /// Returns a core that the parts have inside.
+    fn core(&self) -> Core
+        ensures { HaveCore result self.now }
+    {
+        self.core
     }
 
     /// Adds the indexes of the parts of the region that a question is about. The bounds are those of the question.
@@ -67,6 +84,9 @@ impl Region {
             ≡ found.old.items ++ matching_indexes query.now self.now) }
     {
         if bounds.is_apart(&self.bounds()) {
+            return Ok(());
+        }
+        if query.leaves_out(bounds, &self.core()) {
             return Ok(());
         }
         put_matches_in(self.groups.as_slice(), query, bounds, found)

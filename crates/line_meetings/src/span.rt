@@ -1,4 +1,5 @@
 ghost use Rattle.line_meetings.specs.Bounds.{are_spans_apart, span_around, span_between, united_span};
+ghost use Rattle.line_meetings.specs.Cores.{common_span, reaches_out};
 ghost use Rattle.std.specs.Prelude.{◌≡◌, ◌≤◌};
 
 /// The numbers from the least to the greatest.
@@ -14,6 +15,14 @@ impl Span {
         Span {
             least: 1_048_576,
             greatest: 0,
+        }
+    }
+
+    /// Returns a span that has all numbers.
+    pub fn full() -> Span {
+        Span {
+            least: 0,
+            greatest: 1_048_576,
         }
     }
 
@@ -56,5 +65,22 @@ impl Span {
             least: self.least.min(other.least),
             greatest: self.greatest.max(other.greatest),
         }
+    }
+    /// Returns the greatest span inside both.
+    pub fn common(&self, other: &Span) -> Span
+        ensures { result ≡ common_span self.now other.now }
+    {
+        Span {
+            least: self.least.max(other.least),
+            greatest: self.greatest.min(other.greatest),
+        }
+    }
+
+    /// Returns whether it begins before another one, or ends after it.
+    #[inline]
+    pub fn reaches_out(&self, other: &Span) -> bool
+        ensures { result ≡ reaches_out self.now other.now }
+    {
+        self.least < other.least || other.greatest < self.greatest
     }
 }
