@@ -11,7 +11,7 @@ use Rattle.line_meetings.specs.Bounds.{are_bounds_apart, bounds_around, bounds_o
 use Rattle.line_meetings.specs.Meetings.{meetings_of_lines}
 use Rattle.line_meetings.specs.Parts.{segment_part}
 use Rattle.line_meetings.specs.Telling.{told}
-use Rattle.line_meetings.specs.Touches.{crossing_of, do_overlap, drawn_point, is_beside, mean_coordinate, nearest_on}
+use Rattle.line_meetings.specs.Touches.{crossing_of, do_overlap, drawn_point, is_beside, lies_on_side, mean_coordinate, nearest_on}
 use Rattle.line_meetings.proofs.Names.{LineSegment, least_near}
 
 abbrev at : ℕ → ℕ → Point
@@ -56,6 +56,14 @@ pub known_overlaps : (do_overlap (from_to (at 0 0) (at 40 20)) (from_to (at 60 3
     × (do_overlap (from_to (at 0 0) (at 40 20)) (from_to (at 42 21) (at 60 30)) ≡ false)
     × (do_overlap (from_to (at 0 0) (at 40 20)) (from_to (at 20 10) (at 60 31)) ≡ false)
 known_overlaps = (refl, refl, refl, refl, refl)
+
+-- on one side, on both, with an end on the line, and along it
+pub known_sides : (lies_on_side (from_to (at 0 0) (at 40 20)) (from_to (at 0 1) (at 40 30)) ≡ true)
+    × (lies_on_side (from_to (at 0 0) (at 40 20)) (from_to (at 10 0) (at 50 20)) ≡ true)
+    × (lies_on_side (from_to (at 0 0) (at 40 20)) (from_to (at 0 10) (at 40 10)) ≡ false)
+    × (lies_on_side (from_to (at 0 0) (at 40 20)) (from_to (at 20 10) (at 40 30)) ≡ false)
+    × (lies_on_side (from_to (at 0 0) (at 40 20)) (from_to (at 20 10) (at 60 30)) ≡ false)
+known_sides = (refl, refl, refl, refl, refl)
 
 -- diagonals side by side are apart, and a square around a point meets a diagonal
 pub known_bounds : (are_bounds_apart (bounds_of (from_to (at 0 0) (at 40 40))) (bounds_of (from_to (at 5 0) (at 45 40))) ≡ true)

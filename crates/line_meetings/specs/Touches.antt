@@ -1,7 +1,7 @@
 -- Where parts of lines touch: points near a segment, crossings, and segments that share more than a
 -- point. The whole points at which lines can meet there are weighted means, rounded to the nearest.
 -- Lengths are whole tenths of a millimetre.
-use Rattle.std.specs.Prelude.{ℕ, suc, zero, ◌+◌, ◌-◌, ◌*◌, ◌/◌, ◌==◌, min, max, Bool, not, ◌&&◌, nat_le, nat_lt, ◌-ℤ◌, pos, if◌then◌else◌}
+use Rattle.std.specs.Prelude.{ℕ, suc, zero, ◌+◌, ◌-◌, ◌*◌, ◌/◌, ◌==◌, min, max, Bool, not, ◌&&◌, ◌||◌, nat_le, nat_lt, ◌-ℤ◌, pos, if◌then◌else◌}
 use Rattle.std.specs.Int.{abs_diff}
 use Rattle.design_model.specs.declared.point.Point.{Point}
 use Rattle.drawing_review.specs.declared.grid_point.GridPoint.{GridPoint}
@@ -69,6 +69,14 @@ side_of s p = abs_diff (clockwise_sum s p) (counter_sum s p)
 -- The nearest whole point to where the line through s cuts the segment t.
 abbrev pub crossing_of : LineSegment → LineSegment → GridPoint
 crossing_of s t = mean_point t.a t.b (side_of s t.b) (side_of s t.a)
+
+-- Both ends of the segment t lie on one side of the line through s, and neither on it.
+abbrev pub lies_on_side : LineSegment → LineSegment → Bool
+lies_on_side s t =
+    (nat_lt (clockwise_sum s t.a) (counter_sum s t.a)
+    && nat_lt (clockwise_sum s t.b) (counter_sum s t.b))
+    || (nat_lt (counter_sum s t.a) (clockwise_sum s t.a)
+    && nat_lt (counter_sum s t.b) (clockwise_sum s t.b))
 
 -- The ends of a segment lie on the line through another.
 abbrev pub is_along : LineSegment → LineSegment → Bool

@@ -5,7 +5,7 @@ ghost use Rattle.std.specs.Prelude.{◌≡◌, ◌&&◌};
 use crate::bounds::Bounds;
 use crate::core::Core;
 use crate::parts::is_line_end;
-use crate::touches::{do_cross, is_close, lies_beside, share_more};
+use crate::touches::{do_touch, is_close, lies_beside};
 use drawing_review::LineSegment;
 
 /// A question about all points or segments of a drawing.
@@ -54,7 +54,7 @@ impl Query {
                 is_close(*gap, point.a, t.a) && is_close(*gap, point.a, t.b)
             }
             Query::Beside { gap, point } => lies_beside(*gap, point.a, t),
-            Query::Touching(s) => is_before(s, t) && (do_cross(s, t) || share_more(s, t)),
+            Query::Touching(s) => is_before(s, t) && do_touch(s, t),
         }
     }
 

@@ -1,6 +1,6 @@
 ghost use Rattle.drawing_review.specs.Meetings.{clockwise_sum, counter_sum, cross_inside, lies_between};
-ghost use Rattle.line_meetings.specs.Touches.{are_close, crossing_of, distance_of, do_overlap, drawn_point, is_along, is_beside, least_near, length_along, mean_coordinate, mean_point, nearest_on, shared_end, shared_start, side_of, squared_length};
-ghost use Rattle.std.specs.Prelude.{◌≡◌, ◌*◌, ◌+◌, ◌≤◌};
+ghost use Rattle.line_meetings.specs.Touches.{are_close, crossing_of, distance_of, do_overlap, drawn_point, is_along, is_beside, least_near, length_along, lies_on_side, mean_coordinate, mean_point, nearest_on, shared_end, shared_start, side_of, squared_length};
+ghost use Rattle.std.specs.Prelude.{◌≡◌, ◌*◌, ◌+◌, ◌≤◌, ◌||◌};
 
 use crate::parts::rank;
 use design_model::Point;
@@ -35,6 +35,17 @@ fn side(s: &LineSegment, p: GridPoint) -> u64
     clockwise(s, p).abs_diff(counter(s, p))
 }
 
+/// Returns whether both ends of `t` lie on one side of the line through `s`, and neither on it.
+fn lies_aside(s: &LineSegment, t: &LineSegment) -> bool
+    ensures { result ≡ lies_on_side s.now t.now }
+{
+    let a = clockwise(s, t.a);
+    let not_a = counter(s, t.a);
+    let b = clockwise(s, t.b);
+    let not_b = counter(s, t.b);
+    (a < not_a && b < not_b) || (not_a < a && not_b < b)
+}
+
 /// Returns whether the ends of `t` lie on two sides of `s`, and neither on its line.
 fn lies_across(s: &LineSegment, t: &LineSegment) -> bool
     ensures { result ≡ lies_between s.now t.now }
@@ -47,7 +58,7 @@ fn lies_across(s: &LineSegment, t: &LineSegment) -> bool
 }
 
 /// Returns whether two segments cross inside both.
-pub fn do_cross(s: &LineSegment, t: &LineSegment) -> bool
+fn do_cross(s: &LineSegment, t: &LineSegment) -> bool
     ensures { result ≡ cross_inside s.now t.now }
 {
     !s.frame.is_apart(&t.frame) && (lies_across(s, t) && lies_across(t, s))
@@ -58,6 +69,16 @@ pub fn share_more(s: &LineSegment, t: &LineSegment) -> bool
     ensures { result ≡ do_overlap s.now t.now }
 {
     lies_along(s, t) && rank(start_of_shared(s, t)) < rank(end_of_shared(s, t))
+}
+
+/// Returns whether two segments cross inside both, or share more than a point. Most that are compared lie aside.
+pub fn do_touch(s: &LineSegment, t: &LineSegment) -> bool
+    ensures { result ≡ (cross_inside s.now t.now || do_overlap s.now t.now) }
+{
+    if lies_aside(s, t) {
+        return false;
+    }
+    do_cross(s, t) || share_more(s, t)
 }
 
 fn lies_along(s: &LineSegment, t: &LineSegment) -> bool
