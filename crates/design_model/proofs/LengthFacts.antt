@@ -17,3 +17,9 @@ known_lengths = refl
 pub known_root : root_from 200 3 8 ∷ root_from 200 4 0 ∷ root_from 200 3 0 ∷ root_from 196 4 0 ∷ root_from 195 4 0 ∷ []
     ≡ 14 ∷ 14 ∷ 7 ∷ 14 ∷ 13 ∷ []
 known_root = refl
+
+-- a root has 64 binary digits: the greatest is that of 2 ^ 128 - 1, and of each number above it
+pub known_greatest : map whole_root (340282366920938463463374607431768211455 ∷ 340282366920938463463374607431768211456 ∷ [])
+    ≡ 18446744073709551615 ∷ 18446744073709551615 ∷ []
+unfolding whole_root
+known_greatest = refl
