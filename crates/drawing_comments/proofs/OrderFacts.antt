@@ -4,7 +4,7 @@ use Rattle.design_model.specs.declared.point.Point.{Point}
 use Rattle.line_sections.specs.Lines.{LineValue}
 use Rattle.line_sections.specs.Sections.{lines_through}
 use Rattle.drawing_comments.specs.declared.text_comments.TextComments.{TextComments}
-use Rattle.drawing_comments.specs.OrderedComments.{comments_of_cut, ordered_comments, section_comments}
+use Rattle.drawing_comments.specs.OrderedComments.{comments_of_cut, comments_of_sections, ordered_comments, section_comments}
 
 abbrev at : ℕ → ℕ → Point
 at x y = record { x = pos x; y = pos y }
@@ -35,3 +35,9 @@ pub known_ordered : ordered_comments
     (lines_through 0 ((at 3 0 ∷ at 5 0 ∷ []) ∷ (at 0 0 ∷ at 2 0 ∷ []) ∷ (at 0 0 ∷ at 2 0 ∷ []) ∷ []))
     ≡ codes "#b" ∷ codes "#a" ∷ codes "#c" ∷ []
 known_ordered = refl
+
+-- a line that was cut and comes after another one has its comment before its first section
+pub known_sections : comments_of_sections (with_lines (codes "#a" ∷ codes "#b" ∷ [])) drawn cut
+    (lines_through 0 ((at 2 0 ∷ at 2 7 ∷ []) ∷ (at 0 0 ∷ at 2 0 ∷ []) ∷ (at 2 0 ∷ at 5 0 ∷ at 9 1 ∷ []) ∷ []))
+    ≡ with_lines (codes "#b" ∷ codes "#a" ∷ [] ∷ [])
+known_sections = refl
