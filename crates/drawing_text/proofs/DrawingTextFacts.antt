@@ -1,5 +1,6 @@
 -- Worked values of drawing texts: drawings, and the first faults of texts.
 use Rattle.std.proofs.Common.{◌≡◌, ℕ, pos, negsuc, false, true, List, [], ◌∷◌, ◌++◌, Ok, Err, codes, refl}
+use Rattle.drawing_text.specs.TextLines.{empty_draft}
 use Rattle.drawing_text.proofs.Names.{flat_map, LineValue, lines_through, DrawKind, DrawingValue, body_of_text, drawing_as2, drawing_of, begins_comment, text_lines, line_without_return, words_of_line, located_fault}
 use Rattle.drawing_text.specs.declared.version.Version.TheVariants as version
 use Rattle.line_graph.specs.declared.draw_kind.DrawKind.TheVariants as kind
@@ -181,3 +182,7 @@ known_cost = refl
 -- want of memory has no line
 pub known_memory : located_fault 7 3 kind.Memory ≡ record { number = 0; kind = kind.Memory }
 known_memory = refl
+
+-- the header opens no block
+pub known_empty_draft : (empty_draft.named ≡ false) × (empty_draft.stepped ≡ false) × (empty_draft.opened ≡ 0) × (empty_draft.ends ≡ [])
+known_empty_draft = (refl, refl, refl, refl)
