@@ -26,6 +26,10 @@ known_ends = refl
 pub known_no_ends : ends_by (7 ∷ 5 ∷ []) (pair 0 1 ∷ pair 3 2 ∷ []) ≡ None
 known_no_ends = refl
 
+-- nor where only one of them is matched with a terminal
+pub known_one_matched : (ends_by (7 ∷ 5 ∷ []) (pair 0 2 ∷ []) ≡ None) × (ends_by (7 ∷ 5 ∷ []) (pair 0 3 ∷ []) ≡ None)
+known_one_matched = (refl, refl)
+
 abbrev rows : RowsValue
 rows = record { terminals = 1 ∷ 3 ∷ []; table = (4 ∷ 0 ∷ 5 ∷ 6 ∷ []) ∷ (9 ∷ 6 ∷ 2 ∷ 0 ∷ []) ∷ [] }
 
