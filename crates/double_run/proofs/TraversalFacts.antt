@@ -1,7 +1,7 @@
 -- Traversals of two lines, 4 from junction 0 to 1 and 7 from 2 to 1: what their states and steps require.
 use Rattle.std.proofs.Common.{◌≡◌, ℕ, ◌+◌, ◌*◌, ◌<◌, ◌==◌, Bool, true, false, List, [], ◌∷◌, ◌++◌, Some, None, Ok, length, get_or, refl, arith, subst}
 use Rattle.double_run.proofs.Names.{BeginsWith, DirectedLeg, Edge, GoesOut, IsLegFrom, IsTraversal, PieceValue, directed_passes, edge_cost, is_exhausted, is_on_stack, is_visited, leg_pass, legs_are_below, one_if, pass_start, pass_sum, passed_cost, remaining_count, return_walk, root_junction, traversal_rank, walk_end_from}
-use Rattle.double_run.specs.Traversals.{leg_return}
+use Rattle.double_run.specs.Traversals.{edge_at, leg_return}
 use Rattle.double_run.specs.TraversalSteps.{ContinuesTraversal, StepsTraversal}
 use Rattle.double_run.specs.declared.traversal.Traversal.{Traversal}
 use Rattle.double_run.proofs.DoubleFacts.{at, back, edge, forth}
@@ -35,7 +35,8 @@ known_return = (refl, refl)
 
 -- a leg along no line of the piece is one along line 0, and without lines the first junction is 0
 pub known_absent : (leg_pass lines (leg 2 false) ≡ forth 0) × (leg_return lines (leg 2 false) ≡ back 0) × (root_junction [] ≡ 0)
-known_absent = (refl, refl, refl)
+    × (edge_at edges 2 ≡ edge 0 0 0)
+known_absent = (refl, refl, refl, refl)
 
 -- junctions visited, exhausted and on the stack, where the first line was passed
 pub known_junctions : (is_visited (true ∷ false ∷ []) edges 1 ≡ true) × (is_visited (true ∷ false ∷ []) edges 2 ≡ false)
