@@ -4,6 +4,7 @@ use Rattle.near_pieces.proofs.Names.{AreNearLines, AreNearOrders, DrawingValue, 
 use Rattle.near_pieces.specs.NearDrawings.{are_drawn_whole}
 use Rattle.near_pieces.specs.PiecePlaces.{place_between, starts_between}
 use Rattle.line_graph.specs.declared.draw_kind.DrawKind.TheVariants as kind
+use Rattle.line_graph.specs.declared.piece.Piece.{Piece}
 
 abbrev point : ℤ → ℤ → Point
 point x y = record { x = x; y = y }
@@ -58,6 +59,10 @@ no_piece_has_a_start new starts are = are.starts_are
 -- No order is left over.
 pub no_order_is_left : AreNearOrders None [] ([] ∷ []) → ⊥
 no_order_is_left is = is
+
+-- Each run has an order.
+pub known_each_run : (from : Option Point) (run other : List Piece) (order : List ℕ) → AreNearOrders from (run ∷ other ∷ []) (order ∷ []) → ⊥
+known_each_run from run other order are = are.1
 
 -- The drawing stays where the other one can't be drawn, and then its travel does.
 pub kept_travel : (d : DrawingValue) (found : NearDrawing) → IsFoundFrom d [] (Err kind.Memory) found → found.after ≡ found.before
