@@ -1,1 +1,3 @@
+mod JoinedFacts
+mod JointLemmas
 mod SegmentFacts

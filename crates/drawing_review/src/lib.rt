@@ -1,4 +1,5 @@
-//! Segments of a drawing's lines, with coordinates that are never negative, and whether a point is near one.
+//! Segments of a drawing's lines, with coordinates that are never negative, whether a point is near one, and which points
+//! segments join.
 //!
 //! ```
 //! use design_model::Point;
@@ -13,9 +14,13 @@
 
 mod frame;
 mod grid_point;
+mod joined_points;
+mod joints;
 mod segment;
 mod sides;
 
 pub use grid_point::{GridPoint, counted_from_least};
+pub use joined_points::JoinedPoints;
+pub use joints::points_joined;
 pub use segment::{LineSegment, Position, segment_at};
 pub use sides::comes_near;

@@ -1,14 +1,15 @@
 -- Points joined to others that are kept.
 use Rattle.std.proofs.Common.{◌≡◌, ◌==◌, ◌&&◌, ℕ, Bool, true, false, not, cond, List, Option, Some, None, filter, map, option_map, refl, ap, sym, ◌∙◌, arith}
 use Rattle.drawing_review.specs.declared.grid_point.GridPoint.{GridPoint}
-use Rattle.line_meetings.specs.declared.joined_points.Place.{Place}
+use Rattle.drawing_review.specs.declared.joined_points.Place.{Place}
 use Rattle.line_meetings.specs.declared.known_points.PointKey.{PointKey}
 use Rattle.line_meetings.specs.Bounds.{bounds_around}
-use Rattle.line_meetings.specs.JoinedPoints.{AreJoinedPoints, is_among}
-use Rattle.line_meetings.specs.Joints.{are_joined_around}
+use Rattle.drawing_review.specs.JoinedPoints.{is_among}
+use Rattle.drawing_review.specs.Joints.{are_joined_by, joint_of}
+use Rattle.line_meetings.specs.Joints.{AreJoinedPoints, are_joined_around}
 use Rattle.line_meetings.specs.KnownPoints.{AreKnown, StaysKnown, is_same_point_key, point_key_of}
 use Rattle.line_meetings.specs.Touches.{are_close}
-use Rattle.line_meetings.proofs.Names.{LineSegment, are_bounds_apart, are_joined_by, bounds_of, joint_of, nat_tests}
+use Rattle.line_meetings.proofs.Names.{LineSegment, are_bounds_apart, bounds_of, nat_tests}
 
 -- keys that are equal are the same
 same_keys : (k l : PointKey) → is_same_point_key k l ≡ true → k ≡ l

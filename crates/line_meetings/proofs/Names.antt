@@ -8,7 +8,6 @@ pub use Rattle.line_meetings.specs.declared.bounds.Bounds.{Bounds}
 pub use Rattle.line_meetings.specs.declared.indexed_part.IndexedPart.{IndexedPart}
 pub use Rattle.line_meetings.specs.Bounds.{AreAllWithin, AreWithin, are_bounds_apart, bounds_of, united_bounds}
 pub use Rattle.line_meetings.specs.IndexedParts.{matching_indexes}
-pub use Rattle.line_meetings.specs.Joints.{are_joined_after, are_joined_by, joint_of, point_after}
 pub use Rattle.line_meetings.specs.Parts.{all_points, all_segments, is_line_end, parts_of_lines}
 pub use Rattle.line_meetings.specs.Parts.{points_after, segment_parts, segments_after}
 pub use Rattle.line_meetings.specs.Queries.{answers_query, query_bounds}

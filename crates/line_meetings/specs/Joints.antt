@@ -1,29 +1,10 @@
--- Points that segments join near by. Segments are contracted one after another: the second end of
--- each becomes its first end, for all that are left.
-use Rattle.std.specs.Prelude.{ℕ, Bool, ◌||◌, List, [], ◌∷◌, filter, map, if◌then◌else◌}
-use Rattle.drawing_review.specs.declared.grid_point.GridPoint.{GridPoint}
+-- Points that segments join near by.
+use Rattle.std.specs.Prelude.{◌≡◌, ℕ, Bool, ◌||◌, List, filter, map}
+use Rattle.drawing_review.specs.declared.joined_points.Place.{Place}
 use Rattle.drawing_review.specs.declared.segment.LineSegment.{LineSegment}
-use Rattle.drawing_review.specs.Meetings.{is_same_grid_point}
-use Rattle.line_meetings.specs.declared.joints.Joint.{Joint}
+use Rattle.drawing_review.specs.JoinedPoints.{is_among}
+use Rattle.drawing_review.specs.Joints.{are_joined_by, joint_of}
 use Rattle.line_meetings.specs.Queries.{is_around}
-
--- The two ends of a segment.
-abbrev pub joint_of : LineSegment → Joint
-joint_of t = record { a = t.a; b = t.b }
-
--- A point, where one point has become another.
-abbrev pub point_after : (from to : GridPoint) → GridPoint → GridPoint
-point_after from to p = if is_same_grid_point p from then to else p
-
--- Joints join two points, where all points have become others by `moved`.
-abbrev pub are_joined_after : (GridPoint → GridPoint) → List Joint → (p q : GridPoint) → Bool
-are_joined_after moved [] p q = is_same_grid_point (moved p) (moved q)
-are_joined_after moved (t ∷ rest) p q =
-    are_joined_after (λ z. point_after (moved t.b) (moved t.a) (moved z)) rest p q
-
--- Joints join two points.
-abbrev pub are_joined_by : List Joint → (p q : GridPoint) → Bool
-are_joined_by joints p q = are_joined_after (λ z. z) joints p q
 
 -- Segments whose ends are within the gap of the point p join it and the point q.
 abbrev pub are_joined_around : ℕ → List LineSegment → (p q : LineSegment) → Bool
@@ -34,3 +15,8 @@ are_joined_around gap segments p q =
 abbrev pub are_joined : ℕ → List LineSegment → (p q : LineSegment) → Bool
 are_joined gap segments p q =
     are_joined_around gap segments p q || are_joined_around gap segments q p
+
+-- Points are those that segments near the point p join to it.
+abbrev pub AreJoinedPoints : ℕ → List LineSegment → LineSegment → List Place → Type 0
+AreJoinedPoints gap segments p places = (q : LineSegment)
+    → is_among places q.a ≡ are_joined_around gap segments p q

@@ -1,9 +1,9 @@
 -- Points joined to others that are kept, so that they aren't found again.
 use Rattle.std.specs.Prelude.{◌≡◌, ℕ, ◌==◌, Bool, ◌&&◌, List, Option, Some}
 use Rattle.drawing_review.specs.declared.segment.LineSegment.{LineSegment}
-use Rattle.line_meetings.specs.declared.joined_points.Place.{Place}
+use Rattle.drawing_review.specs.declared.joined_points.Place.{Place}
 use Rattle.line_meetings.specs.declared.known_points.PointKey.{PointKey}
-use Rattle.line_meetings.specs.JoinedPoints.{AreJoinedPoints}
+use Rattle.line_meetings.specs.Joints.{AreJoinedPoints}
 
 -- The block and the coordinates of a point.
 abbrev pub point_key_of : LineSegment → PointKey

@@ -10,6 +10,5 @@ pub mod Meetings
 -- Used only inside this crate.
 pub mod IndexedParts
 pub mod Cores
-pub mod JoinedPoints
 pub mod KnownPoints
 pub mod Sorting

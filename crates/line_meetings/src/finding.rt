@@ -1,6 +1,5 @@
 ghost use Rattle.line_meetings.specs.declared.meeting.TheConstants.{MAX_MEETINGS};
-ghost use Rattle.line_meetings.specs.JoinedPoints.{AreJoinedPoints};
-ghost use Rattle.line_meetings.specs.Joints.{are_joined};
+ghost use Rattle.line_meetings.specs.Joints.{AreJoinedPoints, are_joined};
 ghost use Rattle.line_meetings.specs.KnownPoints.{AreKnown, is_same_point_key};
 ghost use Rattle.line_meetings.specs.Meetings.{beside, close_points, close_to, meetings_among, meetings_of_lines, point_beside as point_beside_of, repeats_after, touch as touch_of, touches};
 ghost use Rattle.line_meetings.specs.Parts.{all_points, all_segments, ends_first, firsts_of};
@@ -10,8 +9,6 @@ ghost use Rattle.std.specs.List.{flat_map};
 ghost use Rattle.std.specs.Prelude.{◌≡◌, ◌++◌, [], IfOk, OnOk, filter, length, map, nat_lt, not};
 
 use crate::copies::{Firsts, without_copies};
-use crate::joined_points::JoinedPoints;
-use crate::joints::points_joined;
 use crate::known_points::{KnownPoints, keep_joined, known_to_join};
 use crate::meeting::{MAX_MEETINGS, Meeting, Meetings};
 use crate::meetings::{near_points, point_beside, touch};
@@ -19,7 +16,7 @@ use crate::part_tree::PartTree;
 use crate::parts::{points, segments};
 use crate::query::Query;
 use design_model::Memory;
-use drawing_review::LineSegment;
+use drawing_review::{JoinedPoints, LineSegment, points_joined};
 use line_sections::Line;
 use std::alloc::Global;
 use std::collections::HashMap;

@@ -1,12 +1,12 @@
-ghost use Rattle.line_meetings.specs.JoinedPoints.{AreJoinedPoints, is_among};
+ghost use Rattle.drawing_review.specs.JoinedPoints.{is_among};
+ghost use Rattle.line_meetings.specs.Joints.{AreJoinedPoints};
 ghost use Rattle.line_meetings.specs.KnownPoints.{StaysKnown, is_same_point_key, point_key_of};
 ghost use Rattle.line_meetings.specs.declared.known_points.PointKey.{PointKey};
 ghost use Rattle.std.specs.HashMap.{get};
 ghost use Rattle.std.specs.Prelude.{◌≡◌, OnOk, Some, cond, option_map};
 
-use crate::joined_points::JoinedPoints;
 use design_model::Memory;
-use drawing_review::{GridPoint, LineSegment};
+use drawing_review::{GridPoint, JoinedPoints, LineSegment};
 use std::alloc::Global;
 use std::collections::HashMap;
 

@@ -19,8 +19,6 @@ mod core;
 mod finding;
 mod group;
 mod indexed_part;
-mod joined_points;
-mod joints;
 mod known_points;
 mod meeting;
 mod meetings;

@@ -1,7 +1,7 @@
 use Rattle.std.proofs.Common.{[], length, map}
-use Rattle.line_meetings.specs.JoinedPoints.{IsGrowing}
-use Rattle.line_meetings.proofs.Names.{joint_of}
-use Rattle.line_meetings.proofs.joints.points_joined.Given as goal
+use Rattle.drawing_review.specs.JoinedPoints.{IsGrowing}
+use Rattle.drawing_review.specs.Joints.{joint_of}
+use Rattle.drawing_review.proofs.joints.points_joined.Given as goal
 
 -- the points so far, with the joints that are left
 abbrev pub invariant-loop-left : goal.invariant-loop-left

@@ -1,11 +1,12 @@
 ghost use Rattle.drawing_review.specs.declared.grid_point.GridPoint.{GridPoint as PointValue};
-ghost use Rattle.line_meetings.specs.JoinedPoints.{PutsOther, Grows, is_among};
-ghost use Rattle.line_meetings.specs.Joints.{are_joined_by, joint_of};
+ghost use Rattle.drawing_review.specs.JoinedPoints.{PutsOther, Grows, is_among};
+ghost use Rattle.drawing_review.specs.Joints.{are_joined_by, joint_of};
 ghost use Rattle.std.specs.Prelude.{◌≡◌, IfOk, map};
 
+use crate::grid_point::GridPoint;
 use crate::joined_points::JoinedPoints;
+use crate::segment::LineSegment;
 use design_model::Memory;
-use drawing_review::{GridPoint, LineSegment};
 use std::alloc::Global;
 
 /// The two ends of a segment.

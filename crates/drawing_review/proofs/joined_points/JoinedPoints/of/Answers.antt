@@ -1,5 +1,5 @@
-use Rattle.line_meetings.proofs.JointLemmas.{put_alone}
-use Rattle.line_meetings.proofs.joined_points.JoinedPoints.of.Goals as goal
+use Rattle.drawing_review.proofs.JointLemmas.{put_alone}
+use Rattle.drawing_review.proofs.joined_points.JoinedPoints.of.Goals as goal
 
 pub returns : goal.returns
 returns c = λ q.

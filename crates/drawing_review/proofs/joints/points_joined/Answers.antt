@@ -1,9 +1,9 @@
 use Rattle.std.proofs.Common.{List, [], map, subst, sym}
-use Rattle.line_meetings.specs.declared.joints.Joint.{Joint}
-use Rattle.line_meetings.specs.JoinedPoints.{IsGrowing}
-use Rattle.line_meetings.proofs.JointLemmas.{begins_alone, grow_over}
-use Rattle.line_meetings.proofs.Names.{joint_of}
-use Rattle.line_meetings.proofs.joints.points_joined.Goals as goal
+use Rattle.drawing_review.specs.declared.joints.Joint.{Joint}
+use Rattle.drawing_review.specs.JoinedPoints.{IsGrowing}
+use Rattle.drawing_review.proofs.JointLemmas.{begins_alone, grow_over}
+use Rattle.drawing_review.specs.Joints.{joint_of}
+use Rattle.drawing_review.proofs.joints.points_joined.Goals as goal
 
 pub loop-left-init : goal.loop-left-init
 loop-left-init c =

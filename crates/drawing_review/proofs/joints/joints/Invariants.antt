@@ -1,6 +1,6 @@
 use Rattle.std.proofs.Common.{◌≡◌, ◌++◌, drop, map}
-use Rattle.line_meetings.proofs.Names.{joint_of}
-use Rattle.line_meetings.proofs.joints.joints.Given as goal
+use Rattle.drawing_review.specs.Joints.{joint_of}
+use Rattle.drawing_review.proofs.joints.joints.Given as goal
 
 -- the joints so far, and those of the segments that are left, are all
 abbrev pub invariant-loop-t : goal.invariant-loop-t

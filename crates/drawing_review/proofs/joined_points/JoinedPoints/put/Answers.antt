@@ -1,9 +1,9 @@
 use Rattle.std.proofs.Common.{List, ap, cond, true, ◌∙◌}
 use Rattle.drawing_review.specs.Meetings.{is_same_grid_point}
-use Rattle.line_meetings.specs.declared.joined_points.Place.{Place}
-use Rattle.line_meetings.specs.JoinedPoints.{is_among}
-use Rattle.line_meetings.proofs.JointLemmas.{put_place}
-use Rattle.line_meetings.proofs.joined_points.JoinedPoints.put.Goals as goal
+use Rattle.drawing_review.specs.declared.joined_points.Place.{Place}
+use Rattle.drawing_review.specs.JoinedPoints.{is_among}
+use Rattle.drawing_review.proofs.JointLemmas.{put_place}
+use Rattle.drawing_review.proofs.joined_points.JoinedPoints.put.Goals as goal
 
 pub returns : goal.returns
 returns c = λ q.

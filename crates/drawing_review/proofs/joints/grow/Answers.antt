@@ -1,9 +1,9 @@
 use Rattle.std.proofs.Common.{◌∙◌, List, subst, sym, arith}
 use Rattle.std.proofs.lemmas.List.{nil_from_length}
-use Rattle.line_meetings.specs.declared.joined_points.Place.{Place}
-use Rattle.line_meetings.specs.JoinedPoints.{AreTestedAlike, is_among}
-use Rattle.line_meetings.proofs.JointLemmas.{alike_more, grow_on, grow_past, grow_round, never}
-use Rattle.line_meetings.proofs.joints.grow.Goals as goal
+use Rattle.drawing_review.specs.declared.joined_points.Place.{Place}
+use Rattle.drawing_review.specs.JoinedPoints.{AreTestedAlike, is_among}
+use Rattle.drawing_review.proofs.JointLemmas.{alike_more, grow_on, grow_past, grow_round, never}
+use Rattle.drawing_review.proofs.joints.grow.Goals as goal
 
 pub loop-t-preserved-then-branch : goal.loop-t-preserved-then-branch
 loop-t-preserved-then-branch c =

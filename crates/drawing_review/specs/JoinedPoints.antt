@@ -3,11 +3,10 @@
 use Rattle.std.specs.Prelude.{◌≡◌, ℕ, ◌<◌, ◌==◌, Bool, true, false, ◌&&◌, ◌||◌, List, [], ◌∷◌, length}
 use Rattle.std.specs.List.{list_any}
 use Rattle.drawing_review.specs.declared.grid_point.GridPoint.{GridPoint}
-use Rattle.drawing_review.specs.declared.segment.LineSegment.{LineSegment}
 use Rattle.drawing_review.specs.Meetings.{is_same_grid_point}
-use Rattle.line_meetings.specs.declared.joined_points.Place.{Place}
-use Rattle.line_meetings.specs.declared.joints.Joint.{Joint}
-use Rattle.line_meetings.specs.Joints.{are_joined_around, are_joined_by}
+use Rattle.drawing_review.specs.declared.joined_points.Place.{Place}
+use Rattle.drawing_review.specs.declared.joints.Joint.{Joint}
+use Rattle.drawing_review.specs.Joints.{are_joined_by}
 
 -- The place of a point.
 abbrev pub place_of : GridPoint → Place
@@ -20,11 +19,6 @@ is_same_place k l = k.x == l.x && k.y == l.y
 -- A point is among some.
 abbrev pub is_among : List Place → GridPoint → Bool
 is_among places p = list_any (is_same_place (place_of p)) places
-
--- Points are those that segments near the point p join to it.
-abbrev pub AreJoinedPoints : ℕ → List LineSegment → LineSegment → List Place → Type 0
-AreJoinedPoints gap segments p places = (q : LineSegment)
-    → is_among places q.a ≡ are_joined_around gap segments p q
 
 -- Both ends of each joint pass a test, or neither does.
 abbrev pub AreTestedAlike : (GridPoint → Bool) → List Joint → Type 0

@@ -1,8 +1,8 @@
 use Rattle.std.proofs.Common.{◌≡◌, ◌+◌, ◌<◌, ◌≤◌, [], List, length, true, false, vec_len}
 use Rattle.drawing_review.specs.declared.grid_point.GridPoint.{GridPoint}
-use Rattle.line_meetings.specs.declared.joints.Joint.{Joint}
-use Rattle.line_meetings.specs.JoinedPoints.{AreTestedAlike, IsGrowing, is_among}
-use Rattle.line_meetings.proofs.joints.grow.Given as goal
+use Rattle.drawing_review.specs.declared.joints.Joint.{Joint}
+use Rattle.drawing_review.specs.JoinedPoints.{AreTestedAlike, IsGrowing, is_among}
+use Rattle.drawing_review.proofs.joints.grow.Given as goal
 
 -- the points so far, with the joints that are left and those for later
 abbrev pub invariant-loop-t : goal.invariant-loop-t

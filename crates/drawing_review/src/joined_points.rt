@@ -1,10 +1,10 @@
 ghost use Rattle.drawing_review.specs.Meetings.{is_same_grid_point};
 ghost use Rattle.drawing_review.specs.declared.grid_point.GridPoint.{GridPoint as PointValue};
-ghost use Rattle.line_meetings.specs.JoinedPoints.{is_among, place_of};
+ghost use Rattle.drawing_review.specs.JoinedPoints.{is_among, place_of};
 ghost use Rattle.std.specs.Prelude.{◌≡◌, IfOk, OnOk, cond, true};
 
+use crate::grid_point::GridPoint;
 use design_model::Memory;
-use drawing_review::GridPoint;
 use std::alloc::Global;
 use std::collections::HashSet;
 use std::marker::Model;
@@ -23,7 +23,7 @@ pub struct JoinedPoints {
 }
 
 impl Model for JoinedPoints {
-    ghost use Rattle.line_meetings.specs.declared.joined_points.Place.{Place};
+    ghost use Rattle.drawing_review.specs.declared.joined_points.Place.{Place};
     ghost use Rattle.std.specs.Prelude.{List};
 
     ghost Value = { List Place };
