@@ -61,7 +61,8 @@ pub no_order_is_left : AreNearOrders None [] ([] ∷ []) → ⊥
 no_order_is_left is = is
 
 -- Each run has an order.
-pub known_each_run : (from : Option Point) (run other : List Piece) (order : List ℕ) → AreNearOrders from (run ∷ other ∷ []) (order ∷ []) → ⊥
+pub known_each_run : (from : Option Point) (run other : List Piece)
+    (order : List ℕ) → AreNearOrders from (run ∷ other ∷ []) (order ∷ []) → ⊥
 known_each_run from run other order are = are.1
 
 -- The drawing stays where the other one can't be drawn, and then its travel does.
