@@ -1,7 +1,7 @@
 -- Worked cores, and what the records on cores state.
 use Rattle.std.proofs.Common.{◌≡◌, ℕ, pos, true, false, [], ◌∷◌, refl}
 use Rattle.design_model.specs.declared.point.Point.{Point}
-use Rattle.line_meetings.specs.declared.core.Core.{Core}
+use Rattle.line_meetings.specs.declared.part_core.Core.{Core}
 use Rattle.line_meetings.specs.declared.query.Query.TheVariants as query
 use Rattle.line_meetings.specs.declared.span.Span.{Span}
 use Rattle.line_meetings.specs.Bounds.{IsWithinSpan, bounds_around}

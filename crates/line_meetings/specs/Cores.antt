@@ -3,7 +3,7 @@
 use Rattle.std.specs.Prelude.{min, max, Bool, true, false, ◌||◌, nat_lt, List, [], ◌∷◌}
 use Rattle.drawing_review.specs.declared.segment.LineSegment.{LineSegment}
 use Rattle.line_meetings.specs.declared.bounds.Bounds.{Bounds}
-use Rattle.line_meetings.specs.declared.core.Core.{Core}
+use Rattle.line_meetings.specs.declared.part_core.Core.{Core}
 use Rattle.line_meetings.specs.declared.indexed_part.IndexedPart.{IndexedPart}
 use Rattle.line_meetings.specs.declared.query.Query.{Query}
 use Rattle.line_meetings.specs.declared.query.Query.TheVariants as query

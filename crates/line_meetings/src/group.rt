@@ -5,8 +5,8 @@ ghost use Rattle.line_meetings.specs.Queries.{query_bounds};
 ghost use Rattle.std.specs.Prelude.{◌≡◌, ◌++◌, IfOk, OnOk};
 
 use crate::bounds::Bounds;
-use crate::core::Core;
 use crate::indexed_part::IndexedPart;
+use crate::part_core::Core;
 use crate::query::Query;
 use design_model::Memory;
 use std::alloc::Global;

@@ -15,13 +15,13 @@
 mod area;
 mod bounds;
 mod copies;
-mod core;
 mod finding;
 mod group;
 mod indexed_part;
 mod known_points;
 mod meeting;
 mod meetings;
+mod part_core;
 mod part_key;
 mod part_order;
 mod part_tree;

@@ -3,7 +3,7 @@ ghost use Rattle.line_meetings.specs.Queries.{is_asked, is_earlier, is_earlier_p
 ghost use Rattle.std.specs.Prelude.{◌≡◌, ◌&&◌};
 
 use crate::bounds::Bounds;
-use crate::core::Core;
+use crate::part_core::Core;
 use crate::parts::is_line_end;
 use crate::touches::{do_touch, is_close, lies_beside};
 use drawing_review::LineSegment;

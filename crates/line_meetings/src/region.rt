@@ -6,9 +6,9 @@ ghost use Rattle.std.specs.List.{flat_map};
 ghost use Rattle.std.specs.Prelude.{◌≡◌, ◌++◌, IfOk, OnOk};
 
 use crate::bounds::Bounds;
-use crate::core::Core;
 use crate::group::{Group, bounds_of_all, core_of_all};
 use crate::indexed_part::IndexedPart;
+use crate::part_core::Core;
 use crate::query::Query;
 use design_model::Memory;
 use std::alloc::Global;

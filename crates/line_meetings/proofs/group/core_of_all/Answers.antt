@@ -1,6 +1,6 @@
 use Rattle.std.proofs.Common.{ap, ◌∙◌}
 use Rattle.std.proofs.lemmas.List.{drop_all, drop_more}
-use Rattle.line_meetings.specs.declared.core.Core.{Core}
+use Rattle.line_meetings.specs.declared.part_core.Core.{Core}
 use Rattle.line_meetings.specs.Cores.{common_core}
 use Rattle.line_meetings.proofs.CoreLemmas.{all_have, narrowed}
 use Rattle.line_meetings.proofs.group.core_of_all.Goals as goal

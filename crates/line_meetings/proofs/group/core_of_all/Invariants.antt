@@ -1,5 +1,5 @@
 use Rattle.std.proofs.Common.{drop}
-use Rattle.line_meetings.specs.declared.core.Core.{Core}
+use Rattle.line_meetings.specs.declared.part_core.Core.{Core}
 use Rattle.line_meetings.specs.Cores.{HasCore, HaveCore}
 use Rattle.line_meetings.proofs.group.core_of_all.Given as goal
 
