@@ -10,19 +10,10 @@ def say(text):
     print(f"bench: {text}", file=sys.stderr, flush=True)
 
 
-def build_stitch():
-    say("building stitch; from nothing this takes some minutes")
-    subprocess.run([REPOSITORY / "build", "stitch"], check=True)
-
-
-def build_stitch_drawing():
-    say("building stitch_drawing; from nothing this takes some minutes")
-    subprocess.run([REPOSITORY / "build", "stitch_drawing"], check=True)
-
-
-def build_stitch_picture():
-    say("building stitch_picture; from nothing this takes some minutes")
-    subprocess.run([REPOSITORY / "build", "stitch_picture"], check=True)
+def build_program(name):
+    """Proves and builds one of the repository's programs."""
+    say(f"building {name}; from nothing this takes some minutes")
+    subprocess.run([REPOSITORY / "build", name], check=True)
 
 
 def build_plain(name):

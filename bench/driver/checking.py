@@ -5,6 +5,7 @@ import counting
 import document
 import routes
 import tables
+import worst
 from building import say
 from cases import CHECKED, all_cases
 
@@ -21,11 +22,19 @@ def kept_counts():
     for _, row in document.rows("routes"):
         if tables.COUNTED in row:
             counts[route_name(row["Drawing"], row["Lines"])] = row[tables.COUNTED]
+    for heading, row in document.rows("worst"):
+        if heading.startswith(worst.COUNTED):
+            name, *cells = row.items()
+            counts.update((worst_name(command, name[1]), count) for command, count in cells)
     return {name: float(text.replace(",", "")) for name, text in counts.items() if text != "–"}
 
 
 def route_name(drawing, lines):
     return f"route of {drawing}, lines {lines}"
+
+
+def worst_name(command, name):
+    return f"{command}: {name}"
 
 
 def compare_totals(chosen, stitch):
@@ -72,8 +81,10 @@ def report(found):
     return above
 
 
-def check(stitch):
-    """The status: 1 where a row takes more than the document has, 127 where nothing can be counted."""
+def check(programs):
+    """The status: 1 where a row takes more than the document has, 127 where nothing can be counted. The programs are
+    `stitch` and its companions by their names."""
+    stitch = programs["stitch"]
     if not counting.can_count():
         say(f"{counting.MISSING}: nothing can be checked")
         return 127
@@ -81,4 +92,6 @@ def check(stitch):
     say(f"counting instructions of {len(rows)} rows")
     counts = counting.instructions_of_all([(stitch, words) for _, words in rows])
     found = [(name, count / 1e6, kept.get(name)) for (name, _), count in zip(rows, counts)]
+    for (_, name, command), count in worst.counted(list(worst.made()), programs).items():
+        found.append((worst_name(command, name), count, kept.get(worst_name(command, name))))
     return 1 if report(found) else 0

@@ -19,15 +19,15 @@ import worst
 from building import say
 from cases import FULL, SMALL, all_cases
 from distances import KINDS
-from places import BIN, STITCH, STITCH_DRAWING, STITCH_PICTURE
+from places import BIN, BUILT
 
 
 def words():
     parser = argparse.ArgumentParser(prog="bench/run")
     parser.add_argument("--sizes", choices=["full", "small"], default="full")
     parser.add_argument("--stitch", type=Path, help="a program built elsewhere")
-    parser.add_argument("--drawing", type=Path, help="a stitch_drawing built elsewhere")
-    parser.add_argument("--picture", type=Path, help="a stitch_picture built elsewhere")
+    for name in ("drawing", "design", "picture"):
+        parser.add_argument(f"--{name}", type=Path, help=f"a stitch_{name} built elsewhere")
     parser.add_argument("--only", default="", metavar="WORD", help="cases whose name has this word")
     parser.add_argument("--check", action="store_true", help="counts instructions, and compares them with the tables")
     return parser.parse_args()
@@ -41,19 +41,28 @@ def head():
     )
 
 
+def program(asked, name):
+    """A program that is measured, by its short name: the one that is named, or the one that is built here."""
+    path = getattr(asked, name)
+    return path.resolve() if path else built(name)
+
+
 @functools.cache
-def program(path):
-    """The program that is measured, built once where none is named."""
-    if path:
-        return path.resolve()
-    building.build_stitch()
-    return STITCH
+def built(name):
+    """A program, proved and built once."""
+    building.build_program(BUILT[name].name)
+    return BUILT[name]
+
+
+def programs(asked):
+    """All programs that are measured."""
+    return {name: program(asked, name) for name in BUILT}
 
 
 def measure_routes(asked, sizes):
     """The table of routes, of those whose name has the word. It is kept where it has all of them."""
     if not asked.only or asked.only.startswith("route"):
-        stitch = program(asked.stitch)
+        stitch = program(asked, "stitch")
         text = routes.report(routes.routes(stitch, asked.only, sizes.lines), stitch)
         print(text)
         if sizes is FULL and asked.only in ("", "route"):
@@ -75,33 +84,21 @@ def measure_choices(asked):
     if not counting.can_count():
         say(f"{counting.MISSING}: `space`, `free` and `near` are left out")
         return
-    if not asked.drawing:
-        building.build_stitch_drawing()
-    text = choices.report((asked.drawing or STITCH_DRAWING).resolve())
+    text = choices.report(program(asked, "drawing"))
     print(text)
     document.put(text, "choices")
 
 
 def measure_worst(asked):
-    """The table of all commands over the worst drawings."""
-    if not asked.drawing:
-        building.build_stitch_drawing()
-    if not asked.picture:
-        building.build_stitch_picture()
-    text = worst.report(
-        {
-            "stitch": program(asked.stitch),
-            "drawing": (asked.drawing or STITCH_DRAWING).resolve(),
-            "picture": (asked.picture or STITCH_PICTURE).resolve(),
-        }
-    )
+    """The tables of all commands over the worst inputs."""
+    text = worst.report(programs(asked))
     print(text)
     document.put(text, "worst")
 
 
 def measure_files(asked, sizes, cases):
     """The tables of the file commands, and whether some case differs."""
-    stitch = program(asked.stitch)
+    stitch = program(asked, "stitch")
     building.build_plain("baseline")
     building.build_plain("inputs")
     building.make_inputs(sizes)
@@ -129,7 +126,7 @@ def main():
     sizes = SMALL if asked.sizes == "small" else FULL
     building.build_plain("meter")
     if asked.check:
-        return checking.check(program(asked.stitch))
+        return checking.check(programs(asked))
     if sizes is FULL and asked.only in ("", "choices"):
         measure_choices(asked)
     if sizes is FULL and asked.only in ("", "worst"):

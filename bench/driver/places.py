@@ -7,6 +7,6 @@ REPOSITORY = BENCH.parent
 BIN = BENCH / "out" / "bin"
 INPUTS = BENCH / "out" / "inputs"
 DOCUMENT = BENCH / "TABLES.md"
-STITCH = REPOSITORY / "crates" / "stitch" / "out" / "stitch"
-STITCH_DRAWING = REPOSITORY / "crates" / "stitch_drawing" / "out" / "stitch_drawing"
-STITCH_PICTURE = REPOSITORY / "crates" / "stitch_picture" / "out" / "stitch_picture"
+PROGRAMS = {"stitch": "stitch", "drawing": "stitch_drawing", "design": "stitch_design", "picture": "stitch_picture"}
+# Each program by its short name, where it is built.
+BUILT = {short: REPOSITORY / "crates" / name / "out" / name for short, name in PROGRAMS.items()}

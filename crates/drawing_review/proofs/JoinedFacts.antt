@@ -6,7 +6,7 @@ use Rattle.drawing_review.specs.Meetings.{is_same_grid_point}
 use Rattle.drawing_review.specs.declared.grid_point.GridPoint.{GridPoint}
 use Rattle.drawing_review.specs.declared.joined_points.Place.{Place}
 use Rattle.drawing_review.specs.declared.joints.Joint.{Joint}
-use Rattle.drawing_review.specs.JoinedPoints.{AreJoinedEnds, AreTestedAlike, HasNoEnd, IsGrowing, PutsEnds, Grows, is_among, is_same_place, place_of}
+use Rattle.drawing_review.specs.JoinedPoints.{AreJoinedEnds, AreTestedAlike, HasNoEnd, IsGrowing, PutsEnds, PutsOther, Grows, is_among, is_same_place, place_of}
 use Rattle.drawing_review.specs.Joints.{are_joined_by}
 
 abbrev at : ℕ → ℕ → Point
@@ -55,6 +55,10 @@ known_puts t old new puts = (puts.had, puts.puts)
 pub known_none : (t : Joint) (old new : List Place) → HasNoEnd t old new
     → (new ≡ old) × (is_among old t.a ≡ false) × (is_among old t.b ≡ false)
 known_none t old new none = (none.stays, none.first, none.second)
+
+pub known_other : (t : Joint) (old new : List Place) → (PutsOther t old new true → PutsEnds t old new)
+    × (PutsOther t old new false → HasNoEnd t old new)
+known_other t old new = (λ puts. puts, λ none. none)
 
 pub known_grows : (left later : List Joint) (old new : List Place) (has_grown : Bool) → Grows left old has_grown later new
     → (has_grown ≡ true → length later < length left) × (has_grown ≡ false → AreTestedAlike (is_among new) later)

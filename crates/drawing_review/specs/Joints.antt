@@ -1,6 +1,6 @@
--- Points that joints join. Segments are contracted one after another: the second end of
--- each becomes its first end, for all that are left.
-use Rattle.std.specs.Prelude.{ℕ, Bool, ◌||◌, List, [], ◌∷◌, filter, map, if◌then◌else◌}
+-- Points that joints join. Joints are contracted one after another: the second end of each becomes
+-- its first end, for all that are left.
+use Rattle.std.specs.Prelude.{Bool, List, [], ◌∷◌, if◌then◌else◌}
 use Rattle.drawing_review.specs.declared.grid_point.GridPoint.{GridPoint}
 use Rattle.drawing_review.specs.declared.segment.LineSegment.{LineSegment}
 use Rattle.drawing_review.specs.Meetings.{is_same_grid_point}

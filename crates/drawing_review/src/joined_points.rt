@@ -1,7 +1,7 @@
 ghost use Rattle.drawing_review.specs.Meetings.{is_same_grid_point};
 ghost use Rattle.drawing_review.specs.declared.grid_point.GridPoint.{GridPoint as PointValue};
 ghost use Rattle.drawing_review.specs.JoinedPoints.{is_among, place_of};
-ghost use Rattle.std.specs.Prelude.{◌≡◌, IfOk, OnOk, cond, true};
+ghost use Rattle.std.specs.Prelude.{◌≡◌, IfOk, OnOk, cond, length, true};
 
 use crate::grid_point::GridPoint;
 use design_model::Memory;
@@ -33,7 +33,7 @@ impl Model for JoinedPoints {
 
 impl JoinedPoints {
     /// Returns a point alone.
-    pub fn of(alloc: Global, p: GridPoint) -> Result<JoinedPoints, Memory>
+    pub(crate) fn of(alloc: Global, p: GridPoint) -> Result<JoinedPoints, Memory>
         ensures { IfOk result (λ joined. (q : PointValue) → is_among joined q ≡ is_same_grid_point p q) }
     {
         let mut places = HashSet::new(alloc);
@@ -42,7 +42,9 @@ impl JoinedPoints {
     }
 
     /// Returns how many points there are.
-    pub fn len(&self) -> usize {
+    pub fn len(&self) -> usize
+        ensures { result ≡ length self.now }
+    {
         self.places.len()
     }
 
@@ -54,7 +56,7 @@ impl JoinedPoints {
     }
 
     /// Puts a point to them, unless it is there.
-    pub fn put(&mut self, p: GridPoint) -> Result<(), Memory>
+    pub(crate) fn put(&mut self, p: GridPoint) -> Result<(), Memory>
         ensures { OnOk result ((q : PointValue) → is_among self.new q
             ≡ cond (is_same_grid_point p q) true (is_among self.old q)) }
     {

@@ -69,26 +69,10 @@ inside_itself g = record {
   steep_difference = within_itself g.steep_difference;
 }
 
-unmatched : (q : Query) (t : LineSegment) → are_bounds_apart (query_bounds q) (bounds_of t) ≡ true → answers_query q t ≡ false
-unmatched q t apart = and_left _ _ (not_from_true _ apart)
-
--- A question is about no part inside bounds that are apart from its own.
-none_matches : (q : Query) (f g : Bounds) (parts : List IndexedPart) → f ≡ query_bounds q → AreAllWithin g parts
-    → are_bounds_apart f g ≡ true → filter (λ p. answers_query q p.part) parts ≡ []
-none_matches q f g [] is inside apart = refl
-none_matches q f g (p ∷ rest) is (first, more) apart =
-    grind (
-      arith,
-      none_matches q f g rest is more apart,
-      unmatched q p.part
-          (ap (λ (x : Bounds). are_bounds_apart x (bounds_of p.part)) (sym is) ∙ apart_inside f g (bounds_of p.part) first apart),
-    )
-
-pub none_found : (q : Query) (f g : Bounds) (parts : List IndexedPart) (before : List ℕ) → f ≡ query_bounds q → AreAllWithin g parts
-    → are_bounds_apart f g ≡ true → before ≡ before ++ matching_indexes q parts
-none_found q f g parts before is inside apart =
-    sym (ap (λ (some : List IndexedPart). before ++ map (λ (p : IndexedPart). p.index) some) (none_matches q f g parts is inside apart)
-    ∙ append-nil before)
+-- A part inside bounds that are apart from those of a question isn't one that it is about.
+pub unmatched : (q : Query) (t : LineSegment) (g : Bounds) → AreWithin g (bounds_of t) → are_bounds_apart (query_bounds q) g ≡ true
+    → answers_query q t ≡ false
+unmatched q t g inside apart = and_left _ _ (not_from_true _ (apart_inside (query_bounds q) g (bounds_of t) inside apart))
 
 -- What has the united bounds inside has the next part inside, and those before it.
 pub grown : (f u : Bounds) (p : IndexedPart) (rest left all : List IndexedPart)

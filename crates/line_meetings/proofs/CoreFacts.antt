@@ -2,10 +2,9 @@
 use Rattle.std.proofs.Common.{◌≡◌, ℕ, pos, true, false, [], ◌∷◌, refl}
 use Rattle.design_model.specs.declared.point.Point.{Point}
 use Rattle.line_meetings.specs.declared.part_core.Core.{Core}
-use Rattle.line_meetings.specs.declared.query.Query.TheVariants as query
 use Rattle.line_meetings.specs.declared.span.Span.{Span}
 use Rattle.line_meetings.specs.Bounds.{IsWithinSpan, bounds_around}
-use Rattle.line_meetings.specs.Cores.{HasCore, HaveCore, asks_inside, common_core, core_of, is_core_out, reaches_out}
+use Rattle.line_meetings.specs.Cores.{HasCore, HaveCore, common_core, core_of, is_core_out, reaches_out}
 use Rattle.line_meetings.specs.Parts.{segment_part}
 use Rattle.line_meetings.proofs.Names.{IndexedPart, LineSegment}
 
@@ -33,12 +32,6 @@ pub known_inside : (is_core_out (core_of (from_to (at 3 9) (at 7 5))) (bounds_ar
     × (is_core_out (core_of (from_to (at 3 9) (at 7 4))) (bounds_around 2 (from_to (at 5 7) (at 5 7)).a) ≡ true)
     × (is_core_out (core_of (from_to (at 3 9) (at 8 5))) (bounds_around 2 (from_to (at 5 7) (at 5 7)).a) ≡ true)
 known_inside = (refl, refl, refl)
-
-pub known_asks : (asks_inside (query.Around 2 (from_to (at 0 0) (at 0 0))) ≡ true)
-    × (asks_inside (query.Close 2 (from_to (at 0 0) (at 0 0))) ≡ false)
-    × (asks_inside (query.Beside 2 (from_to (at 0 0) (at 0 0))) ≡ false)
-    × (asks_inside (query.Touching (from_to (at 0 0) (at 4 0))) ≡ false)
-known_asks = (refl, refl, refl, refl)
 
 -- each part has the core inside, by x and by y
 pub known_have : (core : Core) (s t : IndexedPart) → HaveCore core (s ∷ t ∷ [])

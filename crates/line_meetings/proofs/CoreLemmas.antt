@@ -1,15 +1,12 @@
--- Cores of parts, and parts that have a core which reaches out of the bounds of a question.
-use Rattle.std.proofs.Common.{◌≡◌, ◌++◌, ◌&&◌, ◌||◌, ℕ, max, Bool, true, false, nat_le, List, [], ◌∷◌, filter, map, arith, refl, sym, subst, ap, ◌∙◌}
-use Rattle.std.proofs.lemmas.List.{append-nil}
+-- Cores of parts, and segments that have a core which reaches out of a square.
+use Rattle.std.proofs.Common.{◌≡◌, ◌&&◌, ◌||◌, ℕ, max, Bool, true, false, nat_le, List, [], ◌∷◌, arith, refl, sym, subst, ap, ◌∙◌}
 use Rattle.std.specs.Int.{abs_diff}
 use Rattle.line_meetings.specs.declared.part_core.Core.{Core}
-use Rattle.line_meetings.specs.declared.query.Query.{Query}
-use Rattle.line_meetings.specs.declared.query.Query.TheVariants as query
 use Rattle.line_meetings.specs.declared.span.Span.{Span}
-use Rattle.line_meetings.specs.Bounds.{IsWithinSpan, span_around, span_between}
-use Rattle.line_meetings.specs.Cores.{HasCore, HaveCore, asks_inside, common_core, common_span, core_of, is_core_out, reaches_out}
+use Rattle.line_meetings.specs.Bounds.{IsWithinSpan, bounds_around, span_around, span_between}
+use Rattle.line_meetings.specs.Cores.{HasCore, HaveCore, common_core, common_span, core_of, is_core_out, reaches_out}
 use Rattle.line_meetings.specs.Touches.{are_close}
-use Rattle.line_meetings.proofs.Names.{Bounds, IndexedPart, LineSegment, answers_query, matching_indexes, nat_tests, query_bounds}
+use Rattle.line_meetings.proofs.Names.{IndexedPart, LineSegment, nat_tests}
 
 -- An end of a segment is farther than the gap away where its span has a core that reaches out.
 far_ends : (gap p a b m n : ℕ) (c : Span) → IsWithinSpan (span_between a b) c → reaches_out c (span_around p gap) ≡ true
@@ -20,52 +17,16 @@ far_ends_down : (gap p a b m n : ℕ) (c : Span) → IsWithinSpan (span_between 
     → (nat_le (max m (abs_diff p a)) gap && nat_le (max n (abs_diff p b)) gap) ≡ false
 far_ends_down gap p a b m n c inside out = grind (arith, nat_tests, out, inside.least, inside.greatest)
 
-none_asked : (apart same asked : Bool) → asked ≡ false → (apart && (same && asked)) ≡ false
-none_asked apart same asked none = grind (arith, nat_tests, none)
-
-outside : (q : Query) (t : LineSegment) (c : Core) → asks_inside q ≡ true → is_core_out c (query_bounds q) ≡ true → HasCore (core_of t) c
-    → answers_query q t ≡ false
-outside (query.Close gap p) t c inside out has = absurd (cannot inside)
-  where
-    cannot : false ≡ true → ⊥
-    cannot is = cc
-outside (query.Beside gap p) t c inside out has = absurd (cannot inside)
-  where
-    cannot : false ≡ true → ⊥
-    cannot is = cc
-outside (query.Touching s) t c inside out has = absurd (cannot inside)
-  where
-    cannot : false ≡ true → ⊥
-    cannot is = cc
-outside (query.Around gap p) t c inside out has =
-    none_asked _ _ (are_close gap p.a t.a && are_close gap p.a t.b) (by_test (reaches_out c.x (span_around p.a.x gap)) refl)
+-- A segment that has a core which reaches out of a square isn't inside the square.
+pub none_around : (gap : ℕ) (p t : LineSegment) (c : Core) → is_core_out c (bounds_around gap p.a) ≡ true → HasCore (core_of t) c
+    → (are_close gap p.a t.a && are_close gap p.a t.b) ≡ false
+none_around gap p t c out has = by_test (reaches_out c.x (span_around p.a.x gap)) refl
   where
     by_test : (b : Bool) → reaches_out c.x (span_around p.a.x gap) ≡ b → (are_close gap p.a t.a && are_close gap p.a t.b) ≡ false
     by_test true is = far_ends gap p.a.x t.a.x t.b.x (abs_diff p.a.y t.a.y) (abs_diff p.a.y t.b.y) c.x has.x is
     by_test false is =
         far_ends_down gap p.a.y t.a.y t.b.y (abs_diff p.a.x t.a.x) (abs_diff p.a.x t.b.x) c.y has.y
         (sym (ap (λ (b : Bool). b || reaches_out c.y (span_around p.a.y gap)) is) ∙ out)
-
-none_inside : (q : Query) (c : Core) (parts : List IndexedPart) → asks_inside q ≡ true → is_core_out c (query_bounds q) ≡ true
-    → HaveCore c parts → filter (λ p. answers_query q p.part) parts ≡ []
-none_inside q c [] inside out have = refl
-none_inside q c (p ∷ rest) inside out have =
-    grind (arith, none_inside q c rest inside out have.1, outside q p.part c inside out have.0)
-
-both_true : (a b : Bool) → (a && b) ≡ true → (a ≡ true) × (b ≡ true)
-both_true true b is = (refl, is)
-both_true false b is = absurd (cannot is)
-  where
-    cannot : false ≡ true → ⊥
-    cannot never = cc
-
--- A question is about no part with a core that reaches out of its bounds.
-pub none_left : (q : Query) (f : Bounds) (c : Core) (parts : List IndexedPart) (before : List ℕ) → f ≡ query_bounds q → HaveCore c parts
-    → (asks_inside q && is_core_out c f) ≡ true → before ≡ before ++ matching_indexes q parts
-none_left q f c parts before is have left =
-    let both = both_true (asks_inside q) (is_core_out c f) left in
-    sym (ap (λ (some : List IndexedPart). before ++ map (λ (p : IndexedPart). p.index) some)
-    (none_inside q c parts both.0 (ap (is_core_out c) (sym is) ∙ both.1) have) ∙ append-nil before)
 
 within_first : (g a b : Span) → IsWithinSpan (common_span a b) g → IsWithinSpan a g
 within_first g a b inside = record { least = omega (arith, inside.least); greatest = omega (arith, inside.greatest) }

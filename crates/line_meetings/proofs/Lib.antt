@@ -10,5 +10,9 @@ mod JointLemmas
 mod KnownFacts
 mod KnownLemmas
 mod MeetingFacts
+mod OutlineLemmas
+mod StripFacts
+mod StripLemmas
+mod StripLists
 mod TellingLemmas
 mod TouchLemmas

@@ -1,12 +1,10 @@
 -- Cores of parts: what the bounds of each of several parts have inside, by x and y. Where a core
 -- reaches out of a square, none of the parts lies inside the square.
-use Rattle.std.specs.Prelude.{min, max, Bool, true, false, ◌||◌, nat_lt, List, [], ◌∷◌}
+use Rattle.std.specs.Prelude.{min, max, Bool, ◌||◌, nat_lt, List, [], ◌∷◌}
 use Rattle.drawing_review.specs.declared.segment.LineSegment.{LineSegment}
 use Rattle.line_meetings.specs.declared.bounds.Bounds.{Bounds}
 use Rattle.line_meetings.specs.declared.part_core.Core.{Core}
 use Rattle.line_meetings.specs.declared.indexed_part.IndexedPart.{IndexedPart}
-use Rattle.line_meetings.specs.declared.query.Query.{Query}
-use Rattle.line_meetings.specs.declared.query.Query.TheVariants as query
 use Rattle.line_meetings.specs.declared.span.Span.{Span}
 use Rattle.line_meetings.specs.Bounds.{IsWithinSpan, span_between}
 
@@ -40,10 +38,3 @@ pub record HasCore (outer core : Core) : Type 0 where
 abbrev pub HaveCore : Core → List IndexedPart → Type 0
 HaveCore core [] = Unit {0}
 HaveCore core (p ∷ rest) = HasCore (core_of p.part) core × HaveCore core rest
-
--- A question is about parts inside its bounds alone.
-abbrev pub asks_inside : Query → Bool
-asks_inside (query.Close gap point) = false
-asks_inside (query.Around gap point) = true
-asks_inside (query.Beside gap point) = false
-asks_inside (query.Touching s) = false

@@ -10,5 +10,7 @@ pub mod Meetings
 -- Used only inside this crate.
 pub mod IndexedParts
 pub mod Cores
+pub mod Outlines
+pub mod Strips
 pub mod KnownPoints
 pub mod Sorting

@@ -1,12 +1,12 @@
-ghost use Rattle.line_meetings.specs.Bounds.{AreAllWithin};
 ghost use Rattle.line_meetings.specs.IndexedParts.{matching_indexes};
+ghost use Rattle.line_meetings.specs.Outlines.{HaveOutline};
 ghost use Rattle.line_meetings.specs.Queries.{query_bounds};
 ghost use Rattle.std.specs.List.{flat_map};
 ghost use Rattle.std.specs.Prelude.{◌≡◌, ◌++◌, IfOk, OnOk};
 
 use crate::bounds::Bounds;
-use crate::group::bounds_of_all;
 use crate::indexed_part::IndexedPart;
+use crate::outline::Outline;
 use crate::query::Query;
 use crate::region::{Region, regions};
 use design_model::Memory;
@@ -16,15 +16,15 @@ use std::marker::Model;
 /// The number of parts in an area.
 const AREA: usize = 4_096;
 
-/// Regions that follow each other, and bounds that have their parts inside.
+/// Regions that follow each other, and what is known of their parts.
 #[derive(Drop)]
 pub struct Area {
-    bounds: Bounds,
+    outline: Outline,
     regions: Vec<Region>,
 }
 
 impl Model for Area {
-    ghost use Rattle.line_meetings.specs.Bounds.{AreAllWithin};
+    ghost use Rattle.line_meetings.specs.Outlines.{HaveOutline};
     ghost use Rattle.line_meetings.specs.declared.indexed_part.IndexedPart.{IndexedPart};
     ghost use Rattle.std.specs.List.{flat_map};
     ghost use Rattle.std.specs.Prelude.{List};
@@ -33,7 +33,7 @@ impl Model for Area {
 
     ghost view = { λ a. flat_map (λ r. r) a.regions.items };
 
-    ghost invariant = { λ a. AreAllWithin a.bounds (flat_map (λ r. r) a.regions.items) };
+    ghost invariant = { λ a. HaveOutline a.outline (flat_map (λ r. r) a.regions.items) };
 }
 
 impl Area {
@@ -41,16 +41,16 @@ impl Area {
     fn of(alloc: Global, some: &[IndexedPart]) -> Result<Area, Memory>
         ensures { IfOk result (λ area. area ≡ some.now) }
     {
-        let bounds = bounds_of_all(some);
+        let outline = Outline::of(some);
         let regions = regions(alloc, some)?;
-        Ok(Area { bounds, regions })
+        Ok(Area { outline, regions })
     }
 
-    /// Returns bounds that have the parts inside.
-    fn bounds(&self) -> Bounds
-        ensures { AreAllWithin result self.now }
+    /// Returns the outline of the parts.
+    fn outline(&self) -> &Outline
+        ensures { HaveOutline result.now self.now }
     {
-        self.bounds
+        &self.outline
     }
 
     /// Adds the indexes of the parts of the area that a question is about. The bounds are those of the question.
@@ -64,7 +64,7 @@ impl Area {
         ensures { OnOk result (found.new.items
             ≡ found.old.items ++ matching_indexes query.now self.now) }
     {
-        if bounds.is_apart(&self.bounds()) {
+        if query.leaves_out(bounds, self.outline()) {
             return Ok(());
         }
         put_matches_in(self.regions.as_slice(), query, bounds, found)

@@ -1,28 +1,25 @@
-ghost use Rattle.line_meetings.specs.Bounds.{AreAllWithin};
-ghost use Rattle.line_meetings.specs.Cores.{HaveCore};
 ghost use Rattle.line_meetings.specs.IndexedParts.{matching_indexes};
+ghost use Rattle.line_meetings.specs.Outlines.{HaveOutline};
 ghost use Rattle.line_meetings.specs.Queries.{query_bounds};
 ghost use Rattle.std.specs.Prelude.{◌≡◌, ◌++◌, IfOk, OnOk};
 
 use crate::bounds::Bounds;
 use crate::indexed_part::IndexedPart;
-use crate::part_core::Core;
+use crate::outline::Outline;
 use crate::query::Query;
 use design_model::Memory;
 use std::alloc::Global;
 use std::marker::Model;
 
-/// Parts that follow each other, and bounds that have them inside.
+/// Parts that follow each other, and what is known of all.
 #[derive(Drop)]
 pub struct Group {
-    bounds: Bounds,
-    core: Core,
+    outline: Outline,
     parts: Vec<IndexedPart>,
 }
 
 impl Model for Group {
-    ghost use Rattle.line_meetings.specs.Bounds.{AreAllWithin};
-    ghost use Rattle.line_meetings.specs.Cores.{HaveCore};
+    ghost use Rattle.line_meetings.specs.Outlines.{HaveOutline};
     ghost use Rattle.line_meetings.specs.declared.indexed_part.IndexedPart.{IndexedPart};
     ghost use Rattle.std.specs.Prelude.{List};
 
@@ -30,8 +27,7 @@ impl Model for Group {
 
     ghost view = { λ g. g.parts.items };
 
-    ghost invariant = { λ g. AreAllWithin g.bounds g.parts.items
-        × HaveCore g.core g.parts.items };
+    ghost invariant = { λ g. HaveOutline g.outline g.parts.items };
 }
 
 impl Group {
@@ -39,29 +35,17 @@ impl Group {
     pub fn of(alloc: Global, some: &[IndexedPart]) -> Result<Group, Memory>
         ensures { IfOk result (λ group. group ≡ some.now) }
     {
-        let bounds = bounds_of_all(some);
-        let core = core_of_all(some);
+        let outline = Outline::of(some);
         let mut parts = Vec::new(alloc);
         parts.extend_from_slice(some)?;
-        Ok(Group {
-            bounds,
-            core,
-            parts,
-        })
+        Ok(Group { outline, parts })
     }
 
-    /// Returns bounds that have the parts inside.
-    fn bounds(&self) -> Bounds
-        ensures { AreAllWithin result self.now }
+    /// Returns the outline of the parts.
+    fn outline(&self) -> &Outline
+        ensures { HaveOutline result.now self.now }
     {
-        self.bounds
-    }
-
-    /// Returns a core that the parts have inside.
-    fn core(&self) -> Core
-        ensures { HaveCore result self.now }
-    {
-        self.core
+        &self.outline
     }
 
     /// Adds the indexes of the parts of the group that a question is about. The bounds are those of the question.
@@ -75,36 +59,11 @@ impl Group {
         ensures { OnOk result (found.new.items
             ≡ found.old.items ++ matching_indexes query.now self.now) }
     {
-        if bounds.is_apart(&self.bounds()) {
-            return Ok(());
-        }
-        if query.leaves_out(bounds, &self.core()) {
+        if query.leaves_out(bounds, self.outline()) {
             return Ok(());
         }
         put_matches_among(self.parts.as_slice(), query, bounds, found)
     }
-}
-
-/// Returns bounds that have parts inside.
-pub fn bounds_of_all(parts: &[IndexedPart]) -> Bounds
-    ensures { AreAllWithin result parts.now }
-{
-    let mut bounds = Bounds::empty();
-    for part in parts {
-        bounds = bounds.united(&Bounds::of(&part.part));
-    }
-    bounds
-}
-
-/// Returns a core that parts have inside.
-pub fn core_of_all(parts: &[IndexedPart]) -> Core
-    ensures { HaveCore result parts.now }
-{
-    let mut core = Core::full();
-    for part in parts {
-        core = core.common(&Core::of(&part.part));
-    }
-    core
 }
 
 fn put_matches_among(

@@ -21,6 +21,7 @@ mod indexed_part;
 mod known_points;
 mod meeting;
 mod meetings;
+mod outline;
 mod part_core;
 mod part_key;
 mod part_order;
@@ -29,6 +30,7 @@ mod parts;
 mod query;
 mod region;
 mod span;
+mod strip;
 mod touches;
 
 pub use finding::find_meetings;

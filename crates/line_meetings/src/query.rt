@@ -1,9 +1,9 @@
-ghost use Rattle.line_meetings.specs.Cores.{asks_inside, is_core_out};
+ghost use Rattle.line_meetings.specs.Outlines.{is_left_out};
 ghost use Rattle.line_meetings.specs.Queries.{is_asked, is_earlier, is_earlier_point, answers_query, query_block, query_bounds};
-ghost use Rattle.std.specs.Prelude.{◌≡◌, ◌&&◌};
+ghost use Rattle.std.specs.Prelude.{◌≡◌};
 
 use crate::bounds::Bounds;
-use crate::part_core::Core;
+use crate::outline::Outline;
 use crate::parts::is_line_end;
 use crate::touches::{do_touch, is_close, lies_beside};
 use drawing_review::LineSegment;
@@ -58,22 +58,18 @@ impl Query {
         }
     }
 
-    fn is_inside(&self) -> bool
-        ensures { result ≡ asks_inside self.now }
+    /// Returns whether the question is about no part that has an outline. The bounds are those of the question.
+    pub fn leaves_out(&self, bounds: &Bounds, outline: &Outline) -> bool
+        ensures { result ≡ is_left_out self.now bounds.now outline.now }
     {
         match self {
-            Query::Close { .. } => false,
-            Query::Around { .. } => true,
-            Query::Beside { .. } => false,
-            Query::Touching(_) => false,
+            Query::Close { .. } => bounds.is_apart(&outline.bounds),
+            Query::Around { .. } => {
+                bounds.is_apart(&outline.bounds) || outline.core.is_out(bounds)
+            }
+            Query::Beside { .. } => bounds.is_apart(&outline.bounds),
+            Query::Touching(s) => bounds.is_apart(&outline.bounds) || outline.strip.is_beside(s),
         }
-    }
-
-    /// Returns whether the question is about no part that has a core inside. The bounds are those of the question.
-    pub fn leaves_out(&self, bounds: &Bounds, core: &Core) -> bool
-        ensures { result ≡ (asks_inside self.now && is_core_out core.now bounds.now) }
-    {
-        self.is_inside() && core.is_out(bounds)
     }
 
     /// Returns whether a part is one that the question is about. The bounds are those of the question.

@@ -1,14 +1,13 @@
-ghost use Rattle.line_meetings.specs.Bounds.{AreAllWithin};
-ghost use Rattle.line_meetings.specs.Cores.{HaveCore};
 ghost use Rattle.line_meetings.specs.IndexedParts.{matching_indexes};
+ghost use Rattle.line_meetings.specs.Outlines.{HaveOutline};
 ghost use Rattle.line_meetings.specs.Queries.{query_bounds};
 ghost use Rattle.std.specs.List.{flat_map};
 ghost use Rattle.std.specs.Prelude.{◌≡◌, ◌++◌, IfOk, OnOk};
 
 use crate::bounds::Bounds;
-use crate::group::{Group, bounds_of_all, core_of_all};
+use crate::group::Group;
 use crate::indexed_part::IndexedPart;
-use crate::part_core::Core;
+use crate::outline::Outline;
 use crate::query::Query;
 use design_model::Memory;
 use std::alloc::Global;
@@ -20,17 +19,15 @@ const GROUP: usize = 16;
 /// The number of parts in a region.
 const REGION: usize = 256;
 
-/// Groups that follow each other, and bounds that have their parts inside.
+/// Groups that follow each other, and what is known of their parts.
 #[derive(Drop)]
 pub struct Region {
-    bounds: Bounds,
-    core: Core,
+    outline: Outline,
     groups: Vec<Group>,
 }
 
 impl Model for Region {
-    ghost use Rattle.line_meetings.specs.Bounds.{AreAllWithin};
-    ghost use Rattle.line_meetings.specs.Cores.{HaveCore};
+    ghost use Rattle.line_meetings.specs.Outlines.{HaveOutline};
     ghost use Rattle.line_meetings.specs.declared.indexed_part.IndexedPart.{IndexedPart};
     ghost use Rattle.std.specs.List.{flat_map};
     ghost use Rattle.std.specs.Prelude.{List};
@@ -39,8 +36,7 @@ impl Model for Region {
 
     ghost view = { λ r. flat_map (λ g. g) r.groups.items };
 
-    ghost invariant = { λ r. AreAllWithin r.bounds (flat_map (λ g. g) r.groups.items)
-        × HaveCore r.core (flat_map (λ g. g) r.groups.items) };
+    ghost invariant = { λ r. HaveOutline r.outline (flat_map (λ g. g) r.groups.items) };
 }
 
 impl Region {
@@ -48,28 +44,16 @@ impl Region {
     fn of(alloc: Global, some: &[IndexedPart]) -> Result<Region, Memory>
         ensures { IfOk result (λ region. region ≡ some.now) }
     {
-        let bounds = bounds_of_all(some);
-        let core = core_of_all(some);
+        let outline = Outline::of(some);
         let groups = groups(alloc, some)?;
-        Ok(Region {
-            bounds,
-            core,
-            groups,
-        })
+        Ok(Region { outline, groups })
     }
 
-    /// Returns bounds that have the parts inside.
-    fn bounds(&self) -> Bounds
-        ensures { AreAllWithin result self.now }
+    /// Returns the outline of the parts.
+    fn outline(&self) -> &Outline
+        ensures { HaveOutline result.now self.now }
     {
-        self.bounds
-    }
-
-    /// Returns a core that the parts have inside.
-    fn core(&self) -> Core
-        ensures { HaveCore result self.now }
-    {
-        self.core
+        &self.outline
     }
 
     /// Adds the indexes of the parts of the region that a question is about. The bounds are those of the question.
@@ -83,10 +67,7 @@ impl Region {
         ensures { OnOk result (found.new.items
             ≡ found.old.items ++ matching_indexes query.now self.now) }
     {
-        if bounds.is_apart(&self.bounds()) {
-            return Ok(());
-        }
-        if query.leaves_out(bounds, &self.core()) {
+        if query.leaves_out(bounds, self.outline()) {
             return Ok(());
         }
         put_matches_in(self.groups.as_slice(), query, bounds, found)

@@ -7,7 +7,7 @@ use design_model::Point;
 use drawing_review::{GridPoint, LineSegment, comes_near};
 
 /// Returns the product of two coordinates.
-fn times(m: u16, n: u16) -> u64
+pub(crate) fn times(m: u16, n: u16) -> u64
     ensures value { result ≡ m * n }
     ensures most { result ≤ 4294836225 }
 {

@@ -76,6 +76,7 @@ impl TaskProgram for PictureProgram {
         run_picture(alloc, words, store, out, err)
     }
 
+    /// Each picture is a file.
     fn may_write(_words: &[String]) -> bool {
         true
     }

@@ -1,6 +1,7 @@
 -- What a call returns, put together from what its steps do.
 use Rattle.std.proofs.Common.{◌≡◌, ℕ, List, Ok, Err, refl, subst}
 use Rattle.design_model.specs.OutOfMemory.{UnlessOutOfMemory}
+use Rattle.program_shell.specs.ExitCodes.{exit_number}
 use Rattle.program_shell.specs.RunViews.{Views, views_of}
 use Rattle.program_shell.specs.declared.status.Status.{Status}
 use Rattle.task_runs.specs.Packing.{FileValue, ReplyValue, TaskValue, packed_reply}
@@ -11,7 +12,7 @@ use Rattle.task_runs.specs.GrowingSinks.{GrowingSinkValue, empty_growing_sink, g
 use Rattle.task_runs.specs.NameLists.{ListsFiles}
 use Rattle.task_runs.specs.Outcomes.{IsRunReply, IsReturned, ReturnsOutcome, RunClause}
 use Rattle.task_runs.specs.Outcomes.IsReply.{ran, refused}
-use Rattle.task_runs.specs.Replies.{fault_reply, reply_of}
+use Rattle.task_runs.specs.Replies.{changed_files, fault_reply}
 use Rattle.task_runs.specs.TaskStores.{TaskStoreValue, files_now, store_of, task_store_view}
 use Rattle.task_runs.specs.TaskViews.{views_before}
 
@@ -19,7 +20,12 @@ use Rattle.task_runs.specs.TaskViews.{views_before}
 pub run_reply : (Ends : RunClause) (task : TaskValue) (s : Status) (store : TaskStoreValue) (names : List (List ℕ))
     (out err : GrowingSinkValue) → ListsFiles names (files_now store)
     → Ends task.words (views_before task.files) (views_of (task_store_view store) (growing_view out) (growing_view err)) s
-    → IsRunReply Ends task (reply_of task s store names out err)
+    → IsRunReply Ends task (record {
+  outcome = exit_number s;
+  out = out.bytes;
+  err = err.bytes;
+  files = changed_files task.files (files_now store) names;
+})
 run_reply Ends task s store names out err listed ends = record {
   status = s;
   after = views_of (task_store_view store) (growing_view out) (growing_view err);

@@ -3,11 +3,11 @@ use Rattle.std.proofs.Common.{◌≡◌, ◌≢◌, ◌∙◌, ℕ, false, List,
 use Rattle.outside_io.specs.Files.{Files}
 use Rattle.outside_io.specs.Blames.{FaultLogValue, no_faults}
 use Rattle.outside_io.specs.MemStores.{empty_store, file_set, room_raised}
-use Rattle.program_shell.specs.declared.status.Status.TheVariants as status
+use Rattle.task_runs.specs.GrowingSinks.{growing_view}
 use Rattle.task_runs.specs.NameLists.{ListsFiles, ListsRooms}
 use Rattle.task_runs.specs.Outcomes.{IsReply, IsReturned, ReturnsOutcome, RunClause}
 use Rattle.task_runs.specs.Packing.{FileValue, ReplyValue, packed_reply}
-use Rattle.task_runs.specs.Replies.{EachChangeIsListed, IsAmong, changed_files, is_given, reply_of}
+use Rattle.task_runs.specs.Replies.{EachChangeIsListed, IsAmong, changed_files, is_given}
 use Rattle.task_runs.specs.TaskReading.{Read}
 use Rattle.task_runs.specs.TaskValues.{IsReadAs, file_value, joined, task_value}
 use Rattle.task_runs.specs.FileLists.{content_in}
@@ -75,12 +75,9 @@ pub refuted_unlisted : EachChangeIsListed → (given : List FileValue) (left : F
     → (IsAmong (record { name = name; content = content }) (changed_files given left names) → ⊥) → ⊥
 refuted_unlisted law given left names name content lists is changed never = never (law given left names name content lists is changed)
 
--- the reply of a refused run: its exit code, what it printed and reported, and the file `b` that it left
-pub known_reply : reply_of (record { words = []; files = record { name = a; content = 1 ∷ [] } ∷ [] }) status.Refused
-    (store_of (record { name = a; content = 1 ∷ [] } ∷ record { name = b; content = 2 ∷ [] } ∷ [])) (a ∷ b ∷ [])
-    (record { bytes = 5 ∷ []; faults = 0 }) (record { bytes = 6 ∷ 7 ∷ []; faults = 0 })
-    ≡ record { outcome = 1; out = 5 ∷ []; err = 6 ∷ 7 ∷ []; files = record { name = b; content = 2 ∷ [] } ∷ [] }
-known_reply = refl
+-- what a sink was given and its faults, as contracts see them
+pub known_sink : growing_view (record { bytes = 6 ∷ 7 ∷ []; faults = 2 }) ≡ record { taken = Some (6 ∷ 7 ∷ []); faults = 2 }
+known_sink = refl
 
 -- what a call returns is a reply to the request, packed
 pub known_outcome_returned : (Ends : RunClause) (request before after : List ℕ) (count : ℕ) → ReturnsOutcome Ends request before after count

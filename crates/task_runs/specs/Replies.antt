@@ -2,15 +2,11 @@
 use Rattle.std.specs.Prelude.{◌≡◌, ℕ, Bool, false, List, [], ◌∷◌, ◌++◌, Option, Some, None, bytes_eq, codes, if◌then◌else◌}
 use Rattle.std.specs.List.{flat_map}
 use Rattle.outside_io.specs.Files.{Files}
-use Rattle.program_shell.specs.ExitCodes.{exit_number}
-use Rattle.program_shell.specs.declared.status.Status.{Status}
-use Rattle.task_runs.specs.Packing.{FileValue, ReplyValue, TaskValue}
+use Rattle.task_runs.specs.Packing.{FileValue, ReplyValue}
 use Rattle.task_runs.specs.declared.task_fault.TaskFault.{TaskFault}
 use Rattle.task_runs.specs.declared.task_fault.TaskFault.TheVariants as fault
-use Rattle.task_runs.specs.GrowingSinks.{GrowingSinkValue}
 use Rattle.task_runs.specs.FileLists.{content_in}
 use Rattle.task_runs.specs.NameLists.{ListsFiles}
-use Rattle.task_runs.specs.TaskStores.{TaskStoreValue, files_now}
 
 -- The outcomes that are no exit status of a program.
 abbrev pub no_task : ℕ
@@ -70,14 +66,3 @@ EachChangeIsListed = (given : List FileValue) (left : Files) (names : List (List
     (name content : List ℕ) → ListsFiles names left → left name ≡ Some content
     → is_given (content_in given name) content ≡ false
     → IsAmong (record { name = name; content = content }) (changed_files given left names)
-
--- The reply of a run of a task that ended with this status, and left this store, whose files have
--- these names, and these sinks.
-abbrev pub reply_of : TaskValue → Status → TaskStoreValue → List (List ℕ)
-    → (out err : GrowingSinkValue) → ReplyValue
-reply_of task s store names out err = record {
-  outcome = exit_number s;
-  out = out.bytes;
-  err = err.bytes;
-  files = changed_files task.files (files_now store) names;
-}

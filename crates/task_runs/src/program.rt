@@ -33,7 +33,8 @@ pub trait TaskProgram {
             (views_of (task_store_view store.old) (growing_view out.old) (growing_view err.old))
             (views_of (task_store_view store.new) (growing_view out.new) (growing_view err.new))) };
 
-    /// Returns whether runs with these arguments may write files. Others leave all files as they were, whatever their status.
+    /// Returns whether runs with these arguments may write files. Others leave all files as they were, whatever their
+    /// status. Where it isn't known, they may.
     fn may_write(words: &[String]) -> bool
         ensures { result ≡ false → (s : Status) → LeavesFilesAlone ends (map string_bytes words.now) s };
 

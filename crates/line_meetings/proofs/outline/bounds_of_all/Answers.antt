@@ -2,7 +2,7 @@ use Rattle.std.proofs.Common.{ap, ◌∙◌}
 use Rattle.std.proofs.lemmas.List.{drop_all, drop_more}
 use Rattle.line_meetings.proofs.BoundsLemmas.{all_inside, grown}
 use Rattle.line_meetings.proofs.Names.{Bounds, united_bounds}
-use Rattle.line_meetings.proofs.group.bounds_of_all.Goals as goal
+use Rattle.line_meetings.proofs.outline.bounds_of_all.Goals as goal
 
 pub loop-part-preserved : goal.loop-part-preserved
 loop-part-preserved c =

@@ -1,7 +1,7 @@
 use Rattle.std.proofs.Common.{drop}
 use Rattle.line_meetings.specs.declared.part_core.Core.{Core}
 use Rattle.line_meetings.specs.Cores.{HasCore, HaveCore}
-use Rattle.line_meetings.proofs.group.core_of_all.Given as goal
+use Rattle.line_meetings.proofs.outline.core_of_all.Given as goal
 
 -- what this core and the parts that are left have inside, all have
 abbrev pub invariant-loop-part : goal.invariant-loop-part

@@ -3,7 +3,7 @@ use Rattle.std.proofs.lemmas.List.{drop_all, drop_more}
 use Rattle.line_meetings.specs.declared.part_core.Core.{Core}
 use Rattle.line_meetings.specs.Cores.{common_core}
 use Rattle.line_meetings.proofs.CoreLemmas.{all_have, narrowed}
-use Rattle.line_meetings.proofs.group.core_of_all.Goals as goal
+use Rattle.line_meetings.proofs.outline.core_of_all.Goals as goal
 
 pub loop-part-preserved : goal.loop-part-preserved
 loop-part-preserved c =
