@@ -6,6 +6,7 @@ use Rattle.design_edits.specs.declared.axis.Axis.TheVariants as axis
 use Rattle.design_edits.specs.declared.motion.Motion.TheVariants as motion
 use Rattle.drawing_edits.specs.declared.drawing_edit.DrawingEdit.TheVariants as edit
 use Rattle.drawing_edits.specs.declared.edit_fault.EditFault.TheVariants as fault
+use Rattle.drawing_commands.specs.Requests.{command_order}
 use Rattle.line_graph.specs.declared.draw_kind.DrawKind.TheVariants as kind
 
 pub known_parsed_drawing_edits : (parsed_drawing_edits (codes "shift=-5,70" ∷ codes "turn=3" ∷ codes "mirror=y" ∷ codes "centre"
@@ -50,6 +51,7 @@ known_fault_texts = (refl, refl, refl, refl)
 -- an order, and arguments that are none
 pub known_edit_order : drawing_order_of (codes "edit" ∷ codes "a.rw" ∷ codes "b.rw" ∷ codes "centre" ∷ [])
     ≡ Some (editing (drawing_edit_order (codes "a.rw") (codes "b.rw") (edit.Centre ∷ [])))
+unfolding command_order
 known_edit_order = refl
 
 -- a line whose last point is at the limit

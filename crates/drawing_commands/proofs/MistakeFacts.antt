@@ -3,6 +3,7 @@ use Rattle.std.proofs.Common.{◌≡◌, ◌∷◌, [], ℕ, List, Some, None, O
 use Rattle.program_texts.specs.MistakenWords.{mistaken}
 use Rattle.drawing_commands.proofs.Names.{drawing_mistake, drawing_order_of, space_order, spacing, telling}
 use Rattle.drawing_commands.specs.Names.{parsed_gap}
+use Rattle.drawing_commands.specs.Requests.{command_order}
 use Rattle.drawing_commands.specs.Usage.{drawing_usage_text}
 
 -- arguments of which one isn't understood
@@ -15,6 +16,7 @@ pub known_commands : IsMistaken (codes "sew" ∷ []) (codes "sew") (codes "not a
     × (drawing_order_of (codes "--help" ∷ []) ≡ Some (telling drawing_usage_text))
     × (drawing_order_of (codes "--version" ∷ []) ≡ Some (telling (codes "stitch_drawing 0.4.0\n")))
     × (drawing_order_of [] ≡ None) × (drawing_mistake [] ≡ None) × (drawing_mistake (codes "--help" ∷ []) ≡ None)
+unfolding command_order
 known_commands = ((refl, refl), (refl, refl), (refl, refl), refl, refl, refl, refl, refl)
 
 pub known_looks : IsMistaken (codes "look" ∷ []) (codes "look") (codes "needs a file")
@@ -22,6 +24,7 @@ pub known_looks : IsMistaken (codes "look" ∷ []) (codes "look") (codes "needs 
     × IsMistaken (codes "look" ∷ codes "a" ∷ codes "x" ∷ []) (codes "x") (codes "from 0 to 100")
     × IsMistaken (codes "look" ∷ codes "a" ∷ codes "101" ∷ codes "y" ∷ []) (codes "101") (codes "from 0 to 100")
     × IsMistaken (codes "look" ∷ codes "a" ∷ codes "100" ∷ codes "y" ∷ []) (codes "y") (codes "not understood")
+unfolding command_order
 known_looks = ((refl, refl), (refl, refl), (refl, refl), (refl, refl), (refl, refl))
 
 -- the gap is 0.2 mm where none is given
@@ -34,6 +37,7 @@ pub known_snaps : IsMistaken (codes "snap" ∷ []) (codes "snap") (codes "needs 
     × IsMistaken (codes "snap" ∷ codes "3" ∷ codes "a" ∷ []) (codes "a") (codes "needs a file")
     × IsMistaken (codes "snap" ∷ codes "3" ∷ codes "a" ∷ codes "a" ∷ []) (codes "a") (codes "is the input")
     × IsMistaken (codes "snap" ∷ codes "3" ∷ codes "a" ∷ codes "b" ∷ codes "c" ∷ []) (codes "c") (codes "not understood")
+unfolding command_order
 known_snaps = ((refl, refl), (refl, refl), (refl, refl), (refl, refl), (refl, refl), (refl, refl))
 
 pub known_spaces : IsMistaken (codes "space" ∷ []) (codes "space") (codes "needs a file")
@@ -45,6 +49,7 @@ pub known_spaces : IsMistaken (codes "space" ∷ []) (codes "space") (codes "nee
     × IsMistaken (codes "space" ∷ codes "a" ∷ codes "b" ∷ codes "leeway=0" ∷ codes "length=2048" ∷ []) (codes "length=2048")
     (codes "from 1 to 2047")
     × IsMistaken (codes "space" ∷ codes "a" ∷ codes "b" ∷ codes "leeway=101" ∷ []) (codes "leeway=101") (codes "from 0 to 100")
+unfolding command_order
 known_spaces = ((refl, refl), (refl, refl), (refl, refl), (refl, refl), (refl, refl), (refl, refl), (refl, refl), (refl, refl))
 
 -- what is given of the rule, in any order, and the last one of a key
@@ -54,10 +59,12 @@ pub known_spacings : (drawing_order_of (codes "space" ∷ codes "a" ∷ codes "b
     ≡ Some (spacing (space_order (record { length = Some 2047; leeway = Some 0 }) (codes "a") (codes "b"))))
     × (drawing_order_of (codes "space" ∷ codes "a" ∷ codes "b" ∷ codes "length=1" ∷ codes "leeway=100" ∷ codes "length=25" ∷ [])
     ≡ Some (spacing (space_order (record { length = Some 25; leeway = Some 100 }) (codes "a") (codes "b"))))
+unfolding command_order
 known_spacings = (refl, refl, refl)
 
 pub known_edits : IsMistaken (codes "edit" ∷ []) (codes "edit") (codes "needs a file")
     × IsMistaken (codes "edit" ∷ codes "a" ∷ codes "b" ∷ []) (codes "b") (codes "needs an edit")
     × IsMistaken (codes "edit" ∷ codes "a" ∷ codes "a" ∷ codes "centre" ∷ []) (codes "a") (codes "is the input")
     × IsMistaken (codes "edit" ∷ codes "a" ∷ codes "b" ∷ codes "centre" ∷ codes "strt=0,0" ∷ []) (codes "strt=0,0") (codes "not an edit")
+unfolding command_order
 known_edits = ((refl, refl), (refl, refl), (refl, refl), (refl, refl))

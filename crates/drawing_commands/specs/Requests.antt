@@ -128,7 +128,7 @@ drawing_edit_parsed command words = then_with (parsed_names command words) (λ n
     edits_after named.input named.output named.rest)
 
 -- The order of a command and its arguments.
-abbrev pub command_order : (command : List ℕ) → List (List ℕ) → Result DrawingOrder MistakenWord
+unfoldable pub command_order : (command : List ℕ) → List (List ℕ) → Result DrawingOrder MistakenWord
 command_order command words =
     if bytes_eq command (codes "look") then parsed_look command words
     else (if bytes_eq command (codes "snap") then parsed_snap command words

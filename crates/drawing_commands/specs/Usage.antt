@@ -7,7 +7,7 @@ abbrev pub drawing_program_name : List ℕ
 drawing_program_name = codes "stitch_drawing"
 
 -- The usage text: the commands and their arguments.
-abbrev pub drawing_usage_text : List ℕ
+unfoldable pub drawing_usage_text : List ℕ
 drawing_usage_text = codes "usage: stitch_drawing look DRAWING [GAP]" ++ (newline
     ++ (codes "       stitch_drawing snap GAP DRAWING OUT [--keep]" ++ (newline
     ++ (codes "       stitch_drawing cross DRAWING OUT [--keep]" ++ (newline

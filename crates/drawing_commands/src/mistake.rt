@@ -3,7 +3,7 @@ ghost use Rattle.drawing_commands.specs.Mistakes.{misfit_text};
 ghost use Rattle.std.specs.Prelude.{◌≡◌, ◌≤◌, length};
 
 /// Why an argument isn't understood.
-#[derive(Clone, Copy, Debug, PartialEq)]
+#[derive(Clone, Copy)]
 pub enum Misfit {
     /// The program has no such command.
     NotACommand,

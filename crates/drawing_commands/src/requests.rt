@@ -8,6 +8,7 @@ ghost use Rattle.drawing_commands.specs.Requests.{command_order, drawing_edit_pa
 ghost use Rattle.outside_io.specs.Files.{IsFileName};
 ghost use Rattle.drawing_commands.specs.declared.requests.TheConstants.{MAX_GAP};
 ghost use Rattle.std.specs.Prelude.{◌≡◌, ◌≤◌, Err, IfErr, IfOk, IfSome, Ok, Some, length, map, option_map, string_bytes};
+ghost use Rattle.std.specs.Result.{result_map_both};
 
 use crate::drawing_edit_words::first_mistaken_edit;
 use crate::mistake::{Misfit, Mistake};
@@ -85,11 +86,10 @@ pub fn drawing_request(words: &[String]) -> Result<DrawingRequest<'_>, Option<Mi
     }
 }
 
+#[tactic(auto, unfolding(crate::specs::Requests::command_order))]
 fn command_request<'a>(command: &'a str, words: &'a [String]) -> Requested<'a>
-    ensures ok { IfOk result (λ requested.
-        command_order command.now (map (λ word. string_bytes word) words.now) ≡ Ok (order_of_request requested)) }
-    ensures err { IfErr result (λ mistake.
-        command_order command.now (map (λ word. string_bytes word) words.now) ≡ Err (mistaken_word mistake)) }
+    ensures said { command_order command.now (map (λ word. string_bytes word) words.now)
+        ≡ result_map_both order_of_request mistaken_word result }
     ensures sound { IfOk result HasFileNames }
 {
     match command {
@@ -110,10 +110,8 @@ fn command_request<'a>(command: &'a str, words: &'a [String]) -> Requested<'a>
 }
 
 fn look_request<'a>(command: &'a str, words: &'a [String]) -> Requested<'a>
-    ensures ok { IfOk result (λ requested.
-        parsed_look command.now (map (λ word. string_bytes word) words.now) ≡ Ok (order_of_request requested)) }
-    ensures err { IfErr result (λ mistake.
-        parsed_look command.now (map (λ word. string_bytes word) words.now) ≡ Err (mistaken_word mistake)) }
+    ensures said { parsed_look command.now (map (λ word. string_bytes word) words.now)
+        ≡ result_map_both order_of_request mistaken_word result }
     ensures sound { IfOk result HasFileNames }
 {
     let [file, rest @ ..] = words else {
@@ -129,9 +127,8 @@ fn look_request<'a>(command: &'a str, words: &'a [String]) -> Requested<'a>
 
 /// Parses the arguments after the file of `look`.
 fn gap_after(words: &[String]) -> Result<u16, Mistake<'_>>
-    ensures ok { IfOk result (λ gap. parsed_gap (map (λ word. string_bytes word) words.now) ≡ Ok gap) }
-    ensures err { IfErr result (λ mistake.
-        parsed_gap (map (λ word. string_bytes word) words.now) ≡ Err (mistaken_word mistake)) }
+    ensures said { parsed_gap (map (λ word. string_bytes word) words.now)
+        ≡ result_map_both (λ gap. gap) mistaken_word result }
 {
     match words {
         [] => Ok(DEFAULT_GAP),
@@ -147,10 +144,8 @@ fn gap_after(words: &[String]) -> Result<u16, Mistake<'_>>
 }
 
 fn snap_request<'a>(command: &'a str, words: &'a [String]) -> Requested<'a>
-    ensures ok { IfOk result (λ requested.
-        parsed_snap command.now (map (λ word. string_bytes word) words.now) ≡ Ok (order_of_request requested)) }
-    ensures err { IfErr result (λ mistake.
-        parsed_snap command.now (map (λ word. string_bytes word) words.now) ≡ Err (mistaken_word mistake)) }
+    ensures said { parsed_snap command.now (map (λ word. string_bytes word) words.now)
+        ≡ result_map_both order_of_request mistaken_word result }
     ensures sound { IfOk result HasFileNames }
 {
     let [gap_word, rest @ ..] = words else {
@@ -170,10 +165,8 @@ fn snap_request<'a>(command: &'a str, words: &'a [String]) -> Requested<'a>
 }
 
 fn cross_request<'a>(command: &'a str, words: &'a [String]) -> Requested<'a>
-    ensures ok { IfOk result (λ requested.
-        parsed_cross command.now (map (λ word. string_bytes word) words.now) ≡ Ok (order_of_request requested)) }
-    ensures err { IfErr result (λ mistake.
-        parsed_cross command.now (map (λ word. string_bytes word) words.now) ≡ Err (mistaken_word mistake)) }
+    ensures said { parsed_cross command.now (map (λ word. string_bytes word) words.now)
+        ≡ result_map_both order_of_request mistaken_word result }
     ensures sound { IfOk result HasFileNames }
 {
     let (names, after) = named_rest(command, words)?;
@@ -186,9 +179,8 @@ fn cross_request<'a>(command: &'a str, words: &'a [String]) -> Requested<'a>
 
 /// Parses the arguments after the files of `snap` and `cross`: `--keep`, or none.
 fn keep_after(words: &[String]) -> Result<bool, Mistake<'_>>
-    ensures ok { IfOk result (λ keeps. parsed_keep (map (λ word. string_bytes word) words.now) ≡ Ok keeps) }
-    ensures err { IfErr result (λ mistake.
-        parsed_keep (map (λ word. string_bytes word) words.now) ≡ Err (mistaken_word mistake)) }
+    ensures said { parsed_keep (map (λ word. string_bytes word) words.now)
+        ≡ result_map_both (λ keeps. keeps) mistaken_word result }
 {
     match words {
         [] => Ok(false),
@@ -205,10 +197,8 @@ fn keep_after(words: &[String]) -> Result<bool, Mistake<'_>>
 }
 
 fn space_request<'a>(command: &'a str, words: &'a [String]) -> Requested<'a>
-    ensures ok { IfOk result (λ requested.
-        parsed_space command.now (map (λ word. string_bytes word) words.now) ≡ Ok (order_of_request requested)) }
-    ensures err { IfErr result (λ mistake.
-        parsed_space command.now (map (λ word. string_bytes word) words.now) ≡ Err (mistaken_word mistake)) }
+    ensures said { parsed_space command.now (map (λ word. string_bytes word) words.now)
+        ≡ result_map_both order_of_request mistaken_word result }
     ensures sound { IfOk result HasFileNames }
 {
     let (names, after) = named_rest(command, words)?;
@@ -217,10 +207,8 @@ fn space_request<'a>(command: &'a str, words: &'a [String]) -> Requested<'a>
 }
 
 fn free_request<'a>(command: &'a str, words: &'a [String]) -> Requested<'a>
-    ensures ok { IfOk result (λ requested.
-        parsed_free command.now (map (λ word. string_bytes word) words.now) ≡ Ok (order_of_request requested)) }
-    ensures err { IfErr result (λ mistake.
-        parsed_free command.now (map (λ word. string_bytes word) words.now) ≡ Err (mistaken_word mistake)) }
+    ensures said { parsed_free command.now (map (λ word. string_bytes word) words.now)
+        ≡ result_map_both order_of_request mistaken_word result }
     ensures sound { IfOk result HasFileNames }
 {
     let (names, after) = named_rest(command, words)?;
@@ -228,10 +216,8 @@ fn free_request<'a>(command: &'a str, words: &'a [String]) -> Requested<'a>
 }
 
 fn near_request<'a>(command: &'a str, words: &'a [String]) -> Requested<'a>
-    ensures ok { IfOk result (λ requested.
-        parsed_near command.now (map (λ word. string_bytes word) words.now) ≡ Ok (order_of_request requested)) }
-    ensures err { IfErr result (λ mistake.
-        parsed_near command.now (map (λ word. string_bytes word) words.now) ≡ Err (mistaken_word mistake)) }
+    ensures said { parsed_near command.now (map (λ word. string_bytes word) words.now)
+        ≡ result_map_both order_of_request mistaken_word result }
     ensures sound { IfOk result HasFileNames }
 {
     let (names, after) = named_rest(command, words)?;
@@ -239,10 +225,8 @@ fn near_request<'a>(command: &'a str, words: &'a [String]) -> Requested<'a>
 }
 
 fn edit_request<'a>(command: &'a str, words: &'a [String]) -> Requested<'a>
-    ensures ok { IfOk result (λ requested.
-        drawing_edit_parsed command.now (map (λ word. string_bytes word) words.now) ≡ Ok (order_of_request requested)) }
-    ensures err { IfErr result (λ mistake.
-        drawing_edit_parsed command.now (map (λ word. string_bytes word) words.now) ≡ Err (mistaken_word mistake)) }
+    ensures said { drawing_edit_parsed command.now (map (λ word. string_bytes word) words.now)
+        ≡ result_map_both order_of_request mistaken_word result }
     ensures sound { IfOk result HasFileNames }
 {
     let (names, edits) = named_rest(command, words)?;
@@ -258,10 +242,8 @@ fn edit_request<'a>(command: &'a str, words: &'a [String]) -> Requested<'a>
 fn edits_request<'a>(names: FileNames<'a>, edits: &'a [String]) -> Requested<'a>
     requires names { AreFileNames names }
     requires some { 1 ≤ length edits.now }
-    ensures ok { IfOk result (λ requested. edits_parsed names.entry.input.now names.entry.output.now
-        (map (λ word. string_bytes word) edits.now) ≡ Ok (order_of_request requested)) }
-    ensures err { IfErr result (λ mistake. edits_parsed names.entry.input.now names.entry.output.now
-        (map (λ word. string_bytes word) edits.now) ≡ Err (mistaken_word mistake)) }
+    ensures said { edits_parsed names.entry.input.now names.entry.output.now (map (λ word. string_bytes word) edits.now)
+        ≡ result_map_both order_of_request mistaken_word result }
     ensures sound { IfOk result HasFileNames }
 {
     match first_mistaken_edit(edits) {
@@ -276,10 +258,8 @@ fn edits_request<'a>(names: FileNames<'a>, edits: &'a [String]) -> Requested<'a>
 /// Returns a request after which no argument is left.
 fn alone<'a>(requested: DrawingRequest<'a>, words: &'a [String]) -> Requested<'a>
     requires { HasFileNames requested }
-    ensures ok { IfOk result (λ made. nothing_after (order_of_request requested.entry)
-        (map (λ word. string_bytes word) words.now) ≡ Ok (order_of_request made)) }
-    ensures err { IfErr result (λ mistake. nothing_after (order_of_request requested.entry)
-        (map (λ word. string_bytes word) words.now) ≡ Err (mistaken_word mistake)) }
+    ensures said { nothing_after (order_of_request requested.entry) (map (λ word. string_bytes word) words.now)
+        ≡ result_map_both order_of_request mistaken_word result }
     ensures sound { IfOk result HasFileNames }
 {
     match words {
@@ -296,10 +276,8 @@ fn named_rest<'a>(
     before: &'a str,
     words: &'a [String],
 ) -> Result<(FileNames<'a>, &'a [String]), Mistake<'a>>
-    ensures ok { IfOk result (λ all. parsed_names before.now (map (λ word. string_bytes word) words.now)
-        ≡ Ok (named_words all.0 (map (λ word. string_bytes word) all.1.now))) }
-    ensures err { IfErr result (λ mistake.
-        parsed_names before.now (map (λ word. string_bytes word) words.now) ≡ Err (mistaken_word mistake)) }
+    ensures said { parsed_names before.now (map (λ word. string_bytes word) words.now)
+        ≡ result_map_both (λ all. named_words all.0 (map (λ word. string_bytes word) all.1.now)) mistaken_word result }
     ensures names { IfOk result (λ all. AreFileNames all.0) }
 {
     match words {
@@ -322,8 +300,8 @@ fn named_rest<'a>(
 
 /// Returns an argument that is a file name.
 fn named(word: &str) -> Result<&str, Mistake<'_>>
-    ensures ok { IfOk result (λ name. name_or_mistake word.now ≡ Ok name.now) }
-    ensures err { IfErr result (λ mistake. name_or_mistake word.now ≡ Err (mistaken_word mistake)) }
+    ensures said { name_or_mistake word.now
+        ≡ result_map_both (λ name. name.now) mistaken_word result }
     ensures name { IfOk result (λ name. IsFileName name.now) }
 {
     if is_name(word) {
@@ -339,8 +317,8 @@ fn named(word: &str) -> Result<&str, Mistake<'_>>
 /// Returns the name of the output, if it differs from that of the input.
 fn apart<'a>(input: &str, output: &'a str) -> Result<&'a str, Mistake<'a>>
     requires { IsFileName output.now }
-    ensures ok { IfOk result (λ name. unless_input input.now output.now ≡ Ok name.now) }
-    ensures err { IfErr result (λ mistake. unless_input input.now output.now ≡ Err (mistaken_word mistake)) }
+    ensures said { unless_input input.now output.now
+        ≡ result_map_both (λ name. name.now) mistaken_word result }
     ensures name { IfOk result (λ name. IsFileName name.now) }
 {
     if input == output {
@@ -355,8 +333,8 @@ fn apart<'a>(input: &str, output: &'a str) -> Result<&'a str, Mistake<'a>>
 
 /// Parses a gap from 0 to 100.
 fn parse_gap(word: &str) -> Result<u16, Mistake<'_>>
-    ensures ok { IfOk result (λ gap. gap_or_mistake word.now ≡ Ok gap) }
-    ensures err { IfErr result (λ mistake. gap_or_mistake word.now ≡ Err (mistaken_word mistake)) }
+    ensures said { gap_or_mistake word.now
+        ≡ result_map_both (λ gap. gap) mistaken_word result }
     ensures small { IfOk result (λ gap. gap ≤ MAX_GAP) }
 {
     match gap_in(word.as_bytes()) {

@@ -2,7 +2,8 @@ ghost use Rattle.command_words.specs.Arguments.{equals_sign, natural_within};
 ghost use Rattle.design_model.specs.WholeNumbers.{parsed_whole};
 ghost use Rattle.drawing_commands.specs.Mistakes.{mistaken_word};
 ghost use Rattle.drawing_commands.specs.SpaceWords.{limits_by_key, limits_with_leeway, limits_with_length, limits_with_word, no_limits, parsed_spacing};
-ghost use Rattle.std.specs.Prelude.{◌≡◌, Err, IfErr, IfOk, Ok, map, string_bytes};
+ghost use Rattle.std.specs.Prelude.{◌≡◌, map, string_bytes};
+ghost use Rattle.std.specs.Result.{result_map_both};
 
 use crate::mistake::{Misfit, Mistake};
 use command_words::parse_natural;
@@ -17,10 +18,8 @@ pub const MAX_LEEWAY: u32 = 100;
 
 /// Parses what arguments give of the rule of `space`.
 pub fn parse_spacing(words: &[String]) -> Result<SpacingLimits, Mistake<'_>>
-    ensures ok { IfOk result (λ limits.
-        parsed_spacing no_limits (map (λ word. string_bytes word) words.now) ≡ Ok limits) }
-    ensures err { IfErr result (λ mistake.
-        parsed_spacing no_limits (map (λ word. string_bytes word) words.now) ≡ Err (mistaken_word mistake)) }
+    ensures said { parsed_spacing no_limits (map (λ word. string_bytes word) words.now)
+        ≡ result_map_both (λ limits. limits) mistaken_word result }
 {
     let mut limits = SpacingLimits {
         length: None,
@@ -35,8 +34,8 @@ pub fn parse_spacing(words: &[String]) -> Result<SpacingLimits, Mistake<'_>>
 }
 
 fn with_word(limits: SpacingLimits, word: &str) -> Result<SpacingLimits, Mistake<'_>>
-    ensures ok { IfOk result (λ next. limits_with_word limits word.now ≡ Ok next) }
-    ensures err { IfErr result (λ mistake. limits_with_word limits word.now ≡ Err (mistaken_word mistake)) }
+    ensures said { limits_with_word limits word.now
+        ≡ result_map_both (λ next. next) mistaken_word result }
 {
     match split_first(word.as_bytes(), b'=') {
         Some((key, value)) => with_key(limits, word, key, value),
@@ -53,13 +52,12 @@ fn with_key<'a>(
     key: &[u8],
     value: &[u8],
 ) -> Result<SpacingLimits, Mistake<'a>>
-    ensures ok { IfOk result (λ next. limits_by_key limits word.now key.now value.now ≡ Ok next) }
-    ensures err { IfErr result (λ mistake.
-        limits_by_key limits word.now key.now value.now ≡ Err (mistaken_word mistake)) }
+    ensures said { limits_by_key limits word.now key.now value.now
+        ≡ result_map_both (λ next. next) mistaken_word result }
 {
     match key {
-        b"length" => with_length(limits, word, value),
-        b"leeway" => with_leeway(limits, word, value),
+        key if key == b"length".as_slice() => with_length(limits, word, value),
+        key if key == b"leeway".as_slice() => with_leeway(limits, word, value),
         _ => Err(Mistake {
             word,
             why: Misfit::NotUnderstood,
@@ -72,11 +70,8 @@ fn with_length<'a>(
     word: &'a str,
     value: &[u8],
 ) -> Result<SpacingLimits, Mistake<'a>>
-    ensures ok { IfOk result (λ next.
-        limits_with_length limits word.now (natural_within 1 MAX_LENGTH (parsed_whole value.now)) ≡ Ok next) }
-    ensures err { IfErr result (λ mistake.
-        limits_with_length limits word.now (natural_within 1 MAX_LENGTH (parsed_whole value.now))
-        ≡ Err (mistaken_word mistake)) }
+    ensures said { limits_with_length limits word.now (natural_within 1 MAX_LENGTH (parsed_whole value.now))
+        ≡ result_map_both (λ next. next) mistaken_word result }
 {
     match parse_natural(1, MAX_LENGTH, value) {
         Some(number) => Ok(SpacingLimits {
@@ -95,11 +90,8 @@ fn with_leeway<'a>(
     word: &'a str,
     value: &[u8],
 ) -> Result<SpacingLimits, Mistake<'a>>
-    ensures ok { IfOk result (λ next.
-        limits_with_leeway limits word.now (natural_within 0 MAX_LEEWAY (parsed_whole value.now)) ≡ Ok next) }
-    ensures err { IfErr result (λ mistake.
-        limits_with_leeway limits word.now (natural_within 0 MAX_LEEWAY (parsed_whole value.now))
-        ≡ Err (mistaken_word mistake)) }
+    ensures said { limits_with_leeway limits word.now (natural_within 0 MAX_LEEWAY (parsed_whole value.now))
+        ≡ result_map_both (λ next. next) mistaken_word result }
 {
     match parse_natural(0, MAX_LEEWAY, value) {
         Some(number) => Ok(SpacingLimits {
