@@ -7,15 +7,16 @@ pub use Rattle.drawing_commands.specs.Commands.{drawing_mistake, drawing_order_o
 pub use Rattle.drawing_commands.specs.Commands.{stitch_drawing_after}
 pub use Rattle.drawing_commands.specs.DrawingEditWords.{drawing_edits_of, parsed_drawing_edit, parsed_drawing_edits}
 pub use Rattle.drawing_commands.specs.DrawingEditing.{IsEdited, at_edit, bad_edit_is_out_of_memory, bad_edit_text, drawing_edit_order}
-pub use Rattle.drawing_commands.specs.DrawingEditing.{drawing_edit_read, edit_fault_text, edited_plan, edits_applied}
+pub use Rattle.drawing_commands.specs.DrawingEditing.{edit_fault_text, edit_kept, edited_plan, edits_applied}
 pub use Rattle.drawing_commands.specs.EditComments.{comments_of_edits, drawing_ordered_alone, drawing_with_order}
 pub use Rattle.drawing_commands.specs.EditComments.{orders_from, orders_pieces}
-pub use Rattle.drawing_commands.specs.FreeOrders.{IsFreeProduct, free_made, free_order, free_read}
-pub use Rattle.drawing_commands.specs.NearFiles.{IsNearProduct, near_file_order, near_read}
+pub use Rattle.drawing_commands.specs.FreeOrders.{IsFreeProduct, free_kept, free_made, free_order}
+pub use Rattle.drawing_commands.specs.NearFiles.{IsNearProduct, near_file_order, near_kept}
 pub use Rattle.drawing_commands.specs.Looks.{IsLook, look_order, look_read}
-pub use Rattle.drawing_commands.specs.MeetOrders.{IsMeetProduct, cross_order, meet_made, meet_read, snap_order}
+pub use Rattle.drawing_commands.specs.MeetOrders.{IsMeetProduct, meet_kept, meet_made, snap_order}
 pub use Rattle.drawing_commands.specs.Requests.{DrawingOrder, editing, freeing, looking, meeting, nearing, spacing, telling}
-pub use Rattle.drawing_commands.specs.SpaceOrders.{IsSpaceProduct, space_made, space_order, space_read}
+pub use Rattle.drawing_commands.specs.SpaceOrders.{IsSpaceProduct, space_kept, space_made, space_order}
+pub use Rattle.drawing_commands.specs.TextPlans.{plan_of_text}
 pub use Rattle.drawing_commands.specs.declared.bad_edit.BadEdit.{BadEdit}
 pub use Rattle.drawing_edits.specs.declared.drawing_edit.DrawingEdit.{DrawingEdit}
 pub use Rattle.line_graph.specs.Drawings.{DrawingValue}

@@ -1,28 +1,34 @@
 -- What the plans of the commands accept and refuse, and the orders of requests.
-use Rattle.std.proofs.Common.{[], Bool, codes, Err, false, IsSome, length, List, map, None, refl, true, ℕ, ◌++◌, ◌∷◌, ◌≡◌, ◌≤◌}
+use Rattle.std.proofs.Common.{[], Bool, codes, Err, false, IsSome, length, List, map, None, Ok, refl, true, ℕ, ◌++◌, ◌∷◌, ◌≡◌, ◌≤◌}
 use Rattle.std.specs.Fmt.{digits}
 use Rattle.command_words.specs.ValidNames.{AreFileNames}
 use Rattle.command_words.specs.declared.names.FileNames.{FileNames}
-use Rattle.drawing_commands.proofs.Names.{bad_edit_is_out_of_memory, drawing_edit_read, drawing_outputs_of, drawing_plan_of, editing, free_made, free_order, free_read, freeing, look_order, look_read, looking, meet_read, meeting, near_file_order, near_read, nearing, snap_order, space_order, space_read, stitch_drawing_after, telling}
-use Rattle.drawing_commands.specs.DrawingEditing.{drawing_edit_order}
+use Rattle.drawing_commands.proofs.Names.{bad_edit_is_out_of_memory, drawing_outputs_of, drawing_plan_of, edit_kept, editing, free_kept, free_made, free_order, freeing, IsNearProduct, look_order, look_read, looking, meet_kept, meeting, near_file_order, near_kept, nearing, plan_of_text, snap_order, space_kept, space_order, stitch_drawing_after, telling}
+use Rattle.drawing_commands.specs.DrawingEditing.{drawing_edit_order, drawing_edit_plan}
 use Rattle.drawing_commands.specs.DrawingEditWords.{parsed_drawing_edits}
 use Rattle.drawing_commands.specs.MeetFaults.{meet_fault_text}
-use Rattle.drawing_commands.specs.MeetOrders.{cross_order}
+use Rattle.drawing_commands.specs.FreeOrders.{free_plan}
+use Rattle.drawing_commands.specs.MeetOrders.{cross_order, meet_plan}
 use Rattle.drawing_commands.specs.Names.{named_words}
-use Rattle.drawing_commands.specs.NearFiles.{near_report}
+use Rattle.drawing_commands.specs.NearFiles.{near_plan, near_report}
 use Rattle.drawing_commands.specs.Requests.{HasFileNames, IsEditRequest, order_of_request}
+use Rattle.drawing_commands.specs.SpaceOrders.{space_plan}
+use Rattle.drawing_commands.specs.TextCommands.{AreEdits, HasSoundParts}
+use Rattle.drawing_commands.specs.TextPlans.{text_plan}
 use Rattle.drawing_commands.specs.TextsRead.{text_read}
 use Rattle.drawing_commands.specs.Usage.{drawing_usage_text}
-use Rattle.drawing_commands.specs.VersionOne.{plan_if_joined}
+use Rattle.drawing_commands.specs.VersionOne.{plan_if_joined, plan_if_kept}
 use Rattle.drawing_commands.specs.declared.meeting.MeetReport.TheVariants as report
 use Rattle.drawing_commands.specs.declared.requests.DrawingRequest.TheVariants as request
+use Rattle.drawing_commands.specs.declared.text_commands.TextCommand.TheVariants as command
+use Rattle.drawing_commands.specs.declared.text_reading.TextRead.{TextRead}
 use Rattle.drawing_comments.specs.declared.text_comments.TextComments.{TextComments}
 use Rattle.drawing_edits.specs.declared.drawing_edit.DrawingEdit.{DrawingEdit}
 use Rattle.drawing_edits.specs.declared.edit_fault.EditFault.TheVariants as fault
 use Rattle.drawing_text.specs.declared.draw_fault.DrawFault.{DrawFault}
 use Rattle.line_graph.specs.declared.draw_kind.DrawKind.TheVariants as kind
 use Rattle.met_drawings.specs.declared.meet_fault.MeetFault.TheVariants as meet_fault
-use Rattle.program_shell.specs.Plans.{Plan, refuses}
+use Rattle.program_shell.specs.Plans.{Plan, accepts, refuses}
 use Rattle.program_texts.specs.DrawingTexts.{draw_fault_text}
 use Rattle.spaced_lines.specs.declared.spacing_rule.SpacingLimits.{SpacingLimits}
 
@@ -32,14 +38,22 @@ pub known_version_one : (next : Plan) → (plan_if_joined (codes "a.rw") next tr
 known_version_one next = (refl, refl)
 
 -- The first fault of a text is refused by each command that reads one.
-pub known_faults : (why : DrawFault) → (look_read (look_order (codes "a") 2) (Err why) ≡ refuses (draw_fault_text (codes "a") why))
-    × (meet_read (snap_order 2 true (codes "a") (codes "b")) (Err why) ≡ refuses (draw_fault_text (codes "a") why))
-    × ((limits : SpacingLimits) → space_read (space_order limits (codes "a") (codes "b")) (Err why)
-    ≡ refuses (draw_fault_text (codes "a") why))
-    × (free_read (free_order (codes "a") (codes "b")) (Err why) ≡ refuses (draw_fault_text (codes "a") why))
-    × (near_read (near_file_order (codes "a") (codes "b")) (Err why) ≡ refuses (draw_fault_text (codes "a") why))
-    × (drawing_edit_read (drawing_edit_order (codes "a") (codes "b") []) (Err why) ≡ refuses (draw_fault_text (codes "a") why))
-known_faults why = (refl, refl, (λ limits. refl), refl, refl, refl)
+pub known_faults : (why : DrawFault) (next : TextRead → Plan)
+    → (look_read (look_order (codes "a") 2) (Err why) ≡ refuses (draw_fault_text (codes "a") why))
+    × (plan_of_text (codes "a") next (Err why) ≡ refuses (draw_fault_text (codes "a") why))
+known_faults why next = (refl, refl)
+
+-- Each of these commands reads the text of its input, and goes on if no line would be cut.
+pub known_texts : (limits : SpacingLimits) (text : TextRead)
+    → (meet_plan (snap_order 2 true (codes "a") (codes "b")) ≡ text_plan (codes "a") (meet_kept (snap_order 2 true (codes "a") (codes "b"))))
+    × (space_plan (space_order limits (codes "a") (codes "b")) ≡ text_plan (codes "a") (space_kept (space_order limits (codes "a") (codes "b"))))
+    × (free_plan (free_order (codes "a") (codes "b")) ≡ text_plan (codes "a") (free_kept (free_order (codes "a") (codes "b"))))
+    × (near_plan (near_file_order (codes "a") (codes "b")) ≡ text_plan (codes "a") (near_kept (near_file_order (codes "a") (codes "b"))))
+    × (drawing_edit_plan (drawing_edit_order (codes "a") (codes "b") [])
+    ≡ text_plan (codes "a") (edit_kept (drawing_edit_order (codes "a") (codes "b") [])))
+    × (plan_of_text (codes "a") (near_kept (near_file_order (codes "a") (codes "b"))) (Ok text)
+    ≡ plan_if_kept (codes "a") text.lines.drawing (accepts (IsNearProduct (codes "b") text)))
+known_texts limits text = (refl, refl, refl, refl, refl, refl)
 
 pub known_read : text_read (codes "redwork 9") ≡ Err (record { number = 1; kind = kind.BadHeader })
 known_read = refl
@@ -110,3 +124,10 @@ known_order_parts edits limits = (refl, refl, refl, refl, refl, refl, refl, refl
 pub known_edit_request : (names : FileNames) (edits : List (List ℕ)) → IsEditRequest names edits
     → AreFileNames names × IsSome (parsed_drawing_edits edits) × (1 ≤ length edits)
 known_edit_request names edits is = (is.named, is.parsed, is.some)
+
+-- The gap of a command that snaps is in range; arguments of a command that edits are edits, and there are some.
+pub known_gap : (gap : ℕ) (keeps : Bool) → HasSoundParts (command.Snap gap keeps) → gap ≤ 100
+known_gap gap keeps small = small
+
+pub known_are_edits : (words : List (List ℕ)) → AreEdits words → IsSome (parsed_drawing_edits words) × (1 ≤ length words)
+known_are_edits words are = (are.parsed, are.some)

@@ -6,22 +6,19 @@ use Rattle.drawing_edits.specs.declared.edit_fault.EditFault.{EditFault}
 use Rattle.drawing_edits.specs.declared.edit_fault.EditFault.TheVariants as fault
 use Rattle.drawing_edits.specs.EditedDrawings.{edited_drawing}
 use Rattle.drawing_edits.specs.EditFaults.{edit_is_out_of_memory}
-use Rattle.drawing_text.specs.declared.draw_fault.DrawFault.{DrawFault}
 use Rattle.line_graph.specs.Drawings.{DrawingValue}
 use Rattle.line_graph.specs.GrowingDrawings.{and_then, step_count}
 use Rattle.line_graph.specs.Pieces.{ArePieces}
 use Rattle.program_shell.specs.FileTexts.{text_at}
-use Rattle.program_shell.specs.Plans.{Plan, accepts, reads, refuses}
+use Rattle.program_shell.specs.Plans.{Plan, accepts, refuses}
 use Rattle.program_shell.specs.Products.{ProductValue}
 use Rattle.program_texts.specs.DrawingTexts.{draw_kind_text}
 use Rattle.program_texts.specs.MigrationReports.{migrate_report}
 use Rattle.drawing_commands.specs.declared.bad_edit.BadEdit.{BadEdit}
-use Rattle.drawing_commands.specs.FaultTexts.{plan_after_reading}
 use Rattle.drawing_commands.specs.declared.text_reading.TextRead.{TextRead}
 use Rattle.drawing_commands.specs.CutProducts.{IsCutProduct}
 use Rattle.drawing_commands.specs.EditComments.{comments_of_edits}
-use Rattle.drawing_commands.specs.TextsRead.{text_read}
-use Rattle.drawing_commands.specs.VersionOne.{plan_if_kept}
+use Rattle.drawing_commands.specs.TextPlans.{text_plan}
 
 -- The order of `edit`: the drawing to read, the file to write, and the edits in order.
 pub record DrawingEditOrder : Type 0 where
@@ -75,15 +72,10 @@ abbrev pub edited_plan : DrawingEditOrder → TextRead → Result DrawingValue B
 edited_plan order text (Ok d) = accepts (IsEdited order.output order.edits text d)
 edited_plan order text (Err bad) = refuses (bad_edit_text order.input bad)
 
--- The plan for a drawing: it is edited, if no line is cut but by an edit.
-abbrev pub edit_lines : DrawingEditOrder → TextRead → Plan
-edit_lines order text = plan_if_kept order.input text.lines.drawing
-    (edited_plan order text (edits_applied 1 order.edits text.lines.drawing))
-
--- The plan for the result of reading the drawing: it is edited, and a fault is refused.
-abbrev pub drawing_edit_read : DrawingEditOrder → Result TextRead DrawFault → Plan
-drawing_edit_read order = plan_after_reading order.input (edit_lines order)
+-- The plan for a drawing: it is edited.
+abbrev pub edit_kept : DrawingEditOrder → TextRead → Plan
+edit_kept order text = edited_plan order text (edits_applied 1 order.edits text.lines.drawing)
 
 -- The plan of `edit`: read the drawing file, then write the edited drawing.
 abbrev pub drawing_edit_plan : DrawingEditOrder → Plan
-drawing_edit_plan order = reads order.input (λ bytes. drawing_edit_read order (text_read bytes))
+drawing_edit_plan order = text_plan order.input (edit_kept order)

@@ -1,7 +1,6 @@
 -- The command `free`: pieces without start and end get the best ones. The lines are written whole,
 -- as they were drawn.
 use Rattle.std.specs.Prelude.{ℕ, List, Result, Ok, Err}
-use Rattle.drawing_text.specs.declared.draw_fault.DrawFault.{DrawFault}
 use Rattle.drawing_comments.specs.declared.text_comments.TextComments.{TextComments}
 use Rattle.free_ends.specs.declared.freed_drawing.FreedDrawing.{FreedDrawing}
 use Rattle.free_ends.specs.declared.joined_lines.JoinedLines.{JoinedLines}
@@ -9,14 +8,12 @@ use Rattle.free_ends.specs.FreedDrawings.{IsFreed, lines_joined}
 use Rattle.line_graph.specs.declared.draw_kind.DrawKind.{DrawKind}
 use Rattle.line_graph.specs.Drawings.{DrawingValue}
 use Rattle.program_shell.specs.FileTexts.{text_about}
-use Rattle.program_shell.specs.Plans.{Plan, accepts, reads, refuses}
+use Rattle.program_shell.specs.Plans.{Plan, accepts, refuses}
 use Rattle.program_shell.specs.Products.{ProductValue}
 use Rattle.program_texts.specs.DrawingTexts.{draw_kind_text}
-use Rattle.drawing_commands.specs.FaultTexts.{plan_after_reading}
 use Rattle.drawing_reports.specs.FreeTexts.{free_report}
 use Rattle.drawing_commands.specs.declared.text_reading.TextRead.{TextRead}
-use Rattle.drawing_commands.specs.TextsRead.{text_read}
-use Rattle.drawing_commands.specs.VersionOne.{plan_if_kept}
+use Rattle.drawing_commands.specs.TextPlans.{text_plan}
 use Rattle.drawing_commands.specs.WholeProducts.{IsWholeProduct}
 
 -- The order of `free`: the drawing to read, and the file to write.
@@ -44,15 +41,11 @@ free_made order comments (Ok lines) =
 free_made order comments (Err why) = refuses (text_about order.input (draw_kind_text why))
 
 -- The plan for a drawing and its lines as they are drawn: these are joined, with the starts and
--- ends of the drawing, if no line is cut.
-abbrev pub free_lines : FreeOrder → TextRead → Plan
-free_lines order text = plan_if_kept order.input text.lines.drawing (free_made order text.comments
-    (lines_joined text.lines.drawn.drawing text.lines.drawing.starts text.lines.drawing.ends))
-
--- The plan for the result of reading the drawing: a fault is refused.
-abbrev pub free_read : FreeOrder → Result TextRead DrawFault → Plan
-free_read order = plan_after_reading order.input (free_lines order)
+-- ends of the drawing.
+abbrev pub free_kept : FreeOrder → TextRead → Plan
+free_kept order text = free_made order text.comments
+    (lines_joined text.lines.drawn.drawing text.lines.drawing.starts text.lines.drawing.ends)
 
 -- The plan of `free`: read the drawing file, then write the freed drawing.
 abbrev pub free_plan : FreeOrder → Plan
-free_plan order = reads order.input (λ bytes. free_read order (text_read bytes))
+free_plan order = text_plan order.input (free_kept order)

@@ -2,7 +2,6 @@
 -- Its lines are written whole, as they are drawn but where a copy of a segment is left out, and
 -- its starts and ends move with their points.
 use Rattle.std.specs.Prelude.{ℕ, Bool, true, false, List, length, Result, Ok, Err}
-use Rattle.drawing_text.specs.declared.draw_fault.DrawFault.{DrawFault}
 use Rattle.drawing_comments.specs.declared.text_comments.TextComments.{TextComments}
 use Rattle.drawing_comments.specs.MovedComments.{comments_of_parts}
 use Rattle.line_graph.specs.Drawings.{DrawingValue}
@@ -13,12 +12,10 @@ use Rattle.met_drawings.specs.declared.meet_fault.MeetFault.{MeetFault}
 use Rattle.met_drawings.specs.declared.meeting.MetDrawing.{MetDrawing}
 use Rattle.met_drawings.specs.declared.meeting_counts.MeetingCounts.{MeetingCounts}
 use Rattle.met_drawings.specs.MetDrawings.{met_of}
-use Rattle.program_shell.specs.Plans.{Plan, accepts, reads, refuses}
+use Rattle.program_shell.specs.Plans.{Plan, accepts, refuses}
 use Rattle.program_shell.specs.Products.{ProductValue}
-use Rattle.drawing_commands.specs.FaultTexts.{plan_after_reading}
 use Rattle.drawing_commands.specs.declared.text_reading.TextRead.{TextRead}
-use Rattle.drawing_commands.specs.TextsRead.{text_read}
-use Rattle.drawing_commands.specs.VersionOne.{plan_if_kept}
+use Rattle.drawing_commands.specs.TextPlans.{text_plan}
 use Rattle.drawing_commands.specs.WholeProducts.{IsWholeProduct}
 use Rattle.drawing_commands.specs.declared.meeting.MeetReport.{MeetReport}
 use Rattle.drawing_commands.specs.declared.meeting.MeetReport.TheVariants as report
@@ -77,14 +74,6 @@ abbrev pub meet_kept : MeetOrder → TextRead → Plan
 meet_kept order text = meet_made order text.comments text.lines.drawing
     (met_of order.rule text.lines.drawn.drawing text.lines.drawing.starts text.lines.drawing.ends)
 
--- The plan for a drawing and its lines, if no line would be cut before they are made to meet.
-abbrev pub meet_lines : MeetOrder → TextRead → Plan
-meet_lines order text = plan_if_kept order.input text.lines.drawing (meet_kept order text)
-
--- The plan for the result of reading the drawing: a fault is refused.
-abbrev pub meet_read : MeetOrder → Result TextRead DrawFault → Plan
-meet_read order = plan_after_reading order.input (meet_lines order)
-
 -- The plan: read the drawing file, then write the drawing whose lines meet.
 abbrev pub meet_plan : MeetOrder → Plan
-meet_plan order = reads order.input (λ bytes. meet_read order (text_read bytes))
+meet_plan order = text_plan order.input (meet_kept order)

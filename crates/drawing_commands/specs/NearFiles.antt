@@ -1,21 +1,18 @@
 -- The command `near`: the pieces of each block are sewn in an order with little travel. The drawing
 -- is written with its lines cut where they meet.
-use Rattle.std.specs.Prelude.{ℕ, List, ◌++◌, Result, codes, decimal}
+use Rattle.std.specs.Prelude.{ℕ, List, ◌++◌, codes, decimal}
 use Rattle.design_model.specs.TextLines.{newline}
-use Rattle.drawing_text.specs.declared.draw_fault.DrawFault.{DrawFault}
 use Rattle.drawing_comments.specs.OrderedComments.{comments_of_sections}
 use Rattle.drawing_comments.specs.declared.text_comments.TextComments.{TextComments}
 use Rattle.line_graph.specs.Drawings.{DrawingValue}
 use Rattle.near_pieces.specs.declared.near_drawing.NearDrawing.{NearDrawing}
 use Rattle.near_pieces.specs.NearDrawings.{IsNear}
-use Rattle.program_shell.specs.Plans.{Plan, accepts, reads}
+use Rattle.program_shell.specs.Plans.{Plan, accepts}
 use Rattle.program_shell.specs.Products.{ProductValue}
-use Rattle.drawing_commands.specs.FaultTexts.{plan_after_reading}
 use Rattle.drawing_reports.specs.PlaceTexts.{tenths_text}
 use Rattle.drawing_commands.specs.declared.text_reading.TextRead.{TextRead}
 use Rattle.drawing_commands.specs.CutProducts.{IsCutProduct}
-use Rattle.drawing_commands.specs.TextsRead.{text_read}
-use Rattle.drawing_commands.specs.VersionOne.{plan_if_kept}
+use Rattle.drawing_commands.specs.TextPlans.{text_plan}
 
 -- The order of `near`: the drawing to read, and the file to write.
 pub record NearFileOrder : Type 0 where
@@ -45,15 +42,10 @@ pub record IsNearProduct (output : List ℕ) (text : TextRead) (product : Produc
   pub written : IsCutProduct output (near_comments text found.drawing) found.drawing
       (near_report found.before found.after found.pieces) product
 
--- The plan for a drawing: it is accepted, if no line is cut.
-abbrev pub near_drawing : NearFileOrder → TextRead → Plan
-near_drawing order text =
-    plan_if_kept order.input text.lines.drawing (accepts (IsNearProduct order.output text))
-
--- The plan for the result of reading the drawing: a fault is refused.
-abbrev pub near_read : NearFileOrder → Result TextRead DrawFault → Plan
-near_read order = plan_after_reading order.input (near_drawing order)
+-- The plan for a drawing: it is accepted.
+abbrev pub near_kept : NearFileOrder → TextRead → Plan
+near_kept order text = accepts (IsNearProduct order.output text)
 
 -- The plan of `near`: read the drawing file, then write the near drawing.
 abbrev pub near_plan : NearFileOrder → Plan
-near_plan order = reads order.input (λ bytes. near_read order (text_read bytes))
+near_plan order = text_plan order.input (near_kept order)

@@ -4,21 +4,18 @@ use Rattle.std.specs.Prelude.{ℕ, List, length, Result, Ok, Err}
 use Rattle.spaced_lines.specs.declared.spaced_drawing.SpacedDrawing.{SpacedDrawing}
 use Rattle.spaced_lines.specs.declared.spacing_rule.SpacingLimits.{SpacingLimits}
 use Rattle.spaced_lines.specs.SpacedDrawings.{space_of}
-use Rattle.drawing_text.specs.declared.draw_fault.DrawFault.{DrawFault}
 use Rattle.drawing_comments.specs.declared.text_comments.TextComments.{TextComments}
 use Rattle.line_graph.specs.declared.draw_kind.DrawKind.{DrawKind}
 use Rattle.line_graph.specs.declared.piece.Piece.{Piece}
 use Rattle.line_graph.specs.Drawings.{DrawingValue}
 use Rattle.line_graph.specs.PiecesOfDrawings.{ArePiecesOf}
 use Rattle.program_shell.specs.FileTexts.{text_about}
-use Rattle.program_shell.specs.Plans.{Plan, accepts, reads, refuses}
+use Rattle.program_shell.specs.Plans.{Plan, accepts, refuses}
 use Rattle.program_shell.specs.Products.{ProductValue}
 use Rattle.program_texts.specs.DrawingTexts.{draw_kind_text}
-use Rattle.drawing_commands.specs.FaultTexts.{plan_after_reading}
 use Rattle.drawing_reports.specs.SpaceTexts.{space_report}
 use Rattle.drawing_commands.specs.declared.text_reading.TextRead.{TextRead}
-use Rattle.drawing_commands.specs.TextsRead.{text_read}
-use Rattle.drawing_commands.specs.VersionOne.{plan_if_kept}
+use Rattle.drawing_commands.specs.TextPlans.{text_plan}
 use Rattle.drawing_commands.specs.WholeProducts.{IsWholeProduct}
 
 -- The order of `space`: what is given of the rule, the drawing to read, and the file to write.
@@ -55,14 +52,6 @@ space_kept order text = space_made order text.comments text.lines.drawn.drawing
     (space_of order.limits text.lines.drawn.drawing text.lines.drawing.starts
     text.lines.drawing.ends)
 
--- The plan for a drawing and its lines, if no line is cut.
-abbrev pub space_lines : SpaceOrder → TextRead → Plan
-space_lines order text = plan_if_kept order.input text.lines.drawing (space_kept order text)
-
--- The plan for the result of reading the drawing: a fault is refused.
-abbrev pub space_read : SpaceOrder → Result TextRead DrawFault → Plan
-space_read order = plan_after_reading order.input (space_lines order)
-
 -- The plan of `space`: read the drawing file, then write the spaced drawing.
 abbrev pub space_plan : SpaceOrder → Plan
-space_plan order = reads order.input (λ bytes. space_read order (text_read bytes))
+space_plan order = text_plan order.input (space_kept order)

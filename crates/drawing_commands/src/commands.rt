@@ -4,13 +4,9 @@ ghost use Rattle.drawing_commands.specs.Requests.{HasFileNames, order_of_request
 ghost use Rattle.program_shell.specs.StepOutcomes.{RunsRequest};
 ghost use Rattle.std.specs.Prelude.{Option as OptionValue, Some, map, string_bytes};
 
-use crate::editing::edit;
-use crate::freeing::free_file;
 use crate::looking::look;
-use crate::meeting::{cross_file, snap_file};
-use crate::near_files::near_file;
 use crate::requests::{DrawingRequest, drawing_request};
-use crate::spacing::space_file;
+use crate::text_commands::{TextCommand, write_text};
 use crate::usage::{NAME, usage};
 use outside_io::Store;
 use program_shell::{Failure, Made, bytes_of, only_report};
@@ -48,15 +44,19 @@ fn make_requested<'a, S: Store>(
             gap,
             keeps_copies,
             names,
-        } => snap_file(alloc, gap, keeps_copies, names, store),
+        } => write_text(alloc, TextCommand::Snap { gap, keeps_copies }, names, store),
         DrawingRequest::Cross {
             keeps_copies,
             names,
-        } => cross_file(alloc, keeps_copies, names, store),
-        DrawingRequest::Space { limits, names } => space_file(alloc, limits, names, store),
-        DrawingRequest::Free(names) => free_file(alloc, names, store),
-        DrawingRequest::Near(names) => near_file(alloc, names, store),
-        DrawingRequest::Edit { names, edits } => edit(alloc, names, edits, store),
+        } => write_text(alloc, TextCommand::Cross { keeps_copies }, names, store),
+        DrawingRequest::Space { limits, names } => {
+            write_text(alloc, TextCommand::Space(limits), names, store)
+        }
+        DrawingRequest::Free(names) => write_text(alloc, TextCommand::Free, names, store),
+        DrawingRequest::Near(names) => write_text(alloc, TextCommand::Near, names, store),
+        DrawingRequest::Edit { names, edits } => {
+            write_text(alloc, TextCommand::Edit(edits), names, store)
+        }
         DrawingRequest::Help => {
             let report = bytes_of(alloc, usage())?;
             Ok(only_report(alloc, report))

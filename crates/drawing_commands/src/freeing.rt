@@ -1,62 +1,30 @@
 ghost use Rattle.command_words.specs.ValidNames.{AreFileNames};
-ghost use Rattle.drawing_commands.specs.FreeOrders.{IsFreeProduct, free_lines, free_made, free_order, free_plan};
+ghost use Rattle.drawing_commands.specs.FreeOrders.{IsFreeProduct, free_kept, free_order};
 ghost use Rattle.drawing_commands.specs.WholeProducts.{IsWhole};
 ghost use Rattle.drawing_comments.specs.CommentLaws.{AreTextComments};
-ghost use Rattle.free_ends.specs.FreedDrawings.{lines_joined};
 ghost use Rattle.line_graph.specs.EndOrders.{HasOrderedEnds};
 ghost use Rattle.program_shell.specs.Products.{product_value};
-ghost use Rattle.program_shell.specs.StepOutcomes.{RunsPlan, RunsPurePlan};
+ghost use Rattle.program_shell.specs.StepOutcomes.{RunsPurePlan};
 ghost use Rattle.std.specs.Prelude.{IfOk};
 
 use crate::space_failures::space_failure;
-use crate::text_reading::{TextRead, text_in};
-use crate::version_one::{is_kept, not_kept};
+use crate::text_reading::TextRead;
 use crate::whole_files::whole_product;
 use command_words::FileNames;
 use design_model::Memory;
 use drawing_comments::TextComments;
 use drawing_reports::describe_free;
 use free_ends::{JoinedLines, free, join_lines};
-use outside_io::Store;
 use program_shell::{Made, Product};
 use std::alloc::Global;
 
 /// Gives each piece of a drawing that has neither start nor end the best ones, and writes its lines whole.
-pub(crate) fn free_file<'a, S: Store>(
-    alloc: Global,
-    names: FileNames<'a>,
-    store: &mut S,
-) -> Made<'a>
-    requires { AreFileNames names }
-    ensures { RunsPlan (free_plan (free_order names.entry.input.now names.entry.output.now))
-        (S.view store.old) (S.view store.new) result }
-{
-    let text = text_in(alloc, store, names.input)?;
-    free_if_kept(alloc, names, &text)
-}
-
-/// Frees lines as they are drawn, if none of them is cut.
-fn free_if_kept<'a>(alloc: Global, names: FileNames<'a>, text: &TextRead) -> Made<'a>
+pub(crate) fn free_lines_of<'a>(alloc: Global, names: FileNames<'a>, text: &TextRead) -> Made<'a>
     requires names { AreFileNames names }
     requires ordered { HasOrderedEnds text.now.lines.drawing }
     requires comments { AreTextComments text.now.comments }
-    ensures { RunsPurePlan (free_lines (free_order names.entry.input.now names.entry.output.now)
+    ensures { RunsPurePlan (free_kept (free_order names.entry.input.now names.entry.output.now)
         text.now) result }
-{
-    if !is_kept(alloc, &text.lines.drawing)? {
-        return Err(not_kept(alloc, names.input));
-    }
-    free_lines_of(alloc, names, text)
-}
-
-/// Frees lines as they are drawn, with the starts and ends of their drawing.
-fn free_lines_of<'a>(alloc: Global, names: FileNames<'a>, text: &TextRead) -> Made<'a>
-    requires names { AreFileNames names }
-    requires ordered { HasOrderedEnds text.now.lines.drawing }
-    requires comments { AreTextComments text.now.comments }
-    ensures { RunsPurePlan (free_made (free_order names.entry.input.now names.entry.output.now)
-        text.now.comments (lines_joined text.now.lines.drawn.drawing text.now.lines.drawing.starts
-        text.now.lines.drawing.ends)) result }
 {
     let read = &text.lines;
     let drawn = &read.drawn.drawing;

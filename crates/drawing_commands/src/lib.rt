@@ -38,6 +38,7 @@ mod running;
 mod space_failures;
 mod space_words;
 mod spacing;
+mod text_commands;
 mod text_reading;
 mod usage;
 mod version_one;

@@ -1,16 +1,15 @@
 ghost use Rattle.command_words.specs.ValidNames.{AreFileNames};
-ghost use Rattle.drawing_commands.specs.MeetOrders.{IsMeetProduct, cross_order, meet_kept, meet_lines, meet_plan, meet_report, snap_order};
+ghost use Rattle.drawing_commands.specs.MeetOrders.{IsMeetProduct, cross_order, meet_kept, meet_report, snap_order};
 ghost use Rattle.drawing_commands.specs.WholeProducts.{IsWhole};
 ghost use Rattle.drawing_commands.specs.declared.requests.TheConstants.{MAX_GAP};
 ghost use Rattle.drawing_comments.specs.CommentLaws.{AreTextComments};
 ghost use Rattle.line_graph.specs.EndOrders.{HasOrderedEnds};
 ghost use Rattle.program_shell.specs.Products.{product_value};
-ghost use Rattle.program_shell.specs.StepOutcomes.{RunsPlan, RunsPurePlan};
+ghost use Rattle.program_shell.specs.StepOutcomes.{RunsPurePlan};
 ghost use Rattle.std.specs.Prelude.{◌≡◌, ◌≤◌, IfOk};
 
 use crate::meet_failures::meet_failure;
-use crate::text_reading::{TextRead, text_in};
-use crate::version_one::{is_kept, not_kept};
+use crate::text_reading::TextRead;
 use crate::whole_files::whole_product;
 use command_words::FileNames;
 use design_model::{Bytes, Memory};
@@ -18,7 +17,6 @@ use drawing_comments::{TextComments, spread_comments};
 use drawing_reports::{describe_cross, describe_snap};
 use line_graph::{Drawing, pieces};
 use met_drawings::{MeetingCounts, MeetingRule, MetDrawing, meet};
-use outside_io::Store;
 use program_shell::{Made, Product};
 use std::alloc::Global;
 
@@ -29,73 +27,48 @@ pub enum MeetReport {
     Cross,
 }
 
-/// Makes points of a drawing meet that are within a gap, and writes its lines whole, with its starts and ends.
-pub(crate) fn snap_file<'a, S: Store>(
+/// Makes points of a drawing meet that are within a gap.
+pub(crate) fn snap_lines<'a>(
     alloc: Global,
     gap: u16,
     keeps_copies: bool,
-    names: FileNames<'a>,
-    store: &mut S,
-) -> Made<'a>
-    requires names { AreFileNames names }
-    requires gap { gap ≤ MAX_GAP }
-    ensures { RunsPlan (meet_plan
-        (snap_order gap keeps_copies names.entry.input.now names.entry.output.now))
-        (S.view store.old) (S.view store.new) result }
-{
-    let text = text_in(alloc, store, names.input)?;
-    let rule = MeetingRule {
-        gap,
-        lists_crossings: false,
-        keeps_copies,
-    };
-    meet_if_kept(alloc, rule, MeetReport::Snap, names, &text)
-}
-
-/// Makes lines of a drawing list where they cross, and writes them whole, with its starts and ends.
-pub(crate) fn cross_file<'a, S: Store>(
-    alloc: Global,
-    keeps_copies: bool,
-    names: FileNames<'a>,
-    store: &mut S,
-) -> Made<'a>
-    requires { AreFileNames names }
-    ensures { RunsPlan (meet_plan
-        (cross_order keeps_copies names.entry.input.now names.entry.output.now))
-        (S.view store.old) (S.view store.new) result }
-{
-    let text = text_in(alloc, store, names.input)?;
-    let rule = MeetingRule {
-        gap: 0,
-        lists_crossings: true,
-        keeps_copies,
-    };
-    meet_if_kept(alloc, rule, MeetReport::Cross, names, &text)
-}
-
-/// Makes the lines of a drawing meet, if none of them would be cut before.
-fn meet_if_kept<'a>(
-    alloc: Global,
-    rule: MeetingRule,
-    report: MeetReport,
     names: FileNames<'a>,
     text: &TextRead,
 ) -> Made<'a>
     requires names { AreFileNames names }
     requires ordered { HasOrderedEnds text.now.lines.drawing }
     requires comments { AreTextComments text.now.comments }
-    requires gap { rule.gap ≤ MAX_GAP }
-    ensures { RunsPurePlan (meet_lines (record {
-      rule = rule;
-      report = report;
-      input = names.entry.input.now;
-      output = names.entry.output.now;
-    }) text.now) result }
+    requires gap { gap ≤ MAX_GAP }
+    ensures { RunsPurePlan (meet_kept
+        (snap_order gap keeps_copies names.entry.input.now names.entry.output.now) text.now) result }
 {
-    if !is_kept(alloc, &text.lines.drawing)? {
-        return Err(not_kept(alloc, names.input));
-    }
-    meet_lines_of(alloc, rule, report, names, text)
+    let rule = MeetingRule {
+        gap,
+        lists_crossings: false,
+        keeps_copies,
+    };
+    meet_lines_of(alloc, rule, MeetReport::Snap, names, text)
+}
+
+/// Makes lines of a drawing list where they cross.
+pub(crate) fn cross_lines<'a>(
+    alloc: Global,
+    keeps_copies: bool,
+    names: FileNames<'a>,
+    text: &TextRead,
+) -> Made<'a>
+    requires names { AreFileNames names }
+    requires ordered { HasOrderedEnds text.now.lines.drawing }
+    requires comments { AreTextComments text.now.comments }
+    ensures { RunsPurePlan (meet_kept
+        (cross_order keeps_copies names.entry.input.now names.entry.output.now) text.now) result }
+{
+    let rule = MeetingRule {
+        gap: 0,
+        lists_crossings: true,
+        keeps_copies,
+    };
+    meet_lines_of(alloc, rule, MeetReport::Cross, names, text)
 }
 
 /// Makes the lines of a drawing meet as they are drawn, with its starts and ends.

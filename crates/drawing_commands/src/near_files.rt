@@ -1,49 +1,31 @@
 ghost use Rattle.command_words.specs.ValidNames.{AreFileNames};
-ghost use Rattle.drawing_commands.specs.NearFiles.{IsNearProduct, near_drawing, near_comments, near_file_order, near_plan, near_report};
+ghost use Rattle.drawing_commands.specs.NearFiles.{IsNearProduct, near_comments, near_file_order, near_kept, near_report};
 ghost use Rattle.drawing_comments.specs.CommentLaws.{AreTextComments};
 ghost use Rattle.line_graph.specs.EndOrders.{HasOrderedEnds};
 ghost use Rattle.line_graph.specs.JoinedDrawings.{is_joined};
 ghost use Rattle.program_shell.specs.Products.{product_value};
-ghost use Rattle.program_shell.specs.StepOutcomes.{RunsPlan, RunsPurePlan};
+ghost use Rattle.program_shell.specs.StepOutcomes.{RunsPurePlan};
 ghost use Rattle.std.specs.Prelude.{◌≡◌, IfOk, string_bytes, true};
 
 use crate::edited_files::cut_product;
-use crate::text_reading::{TextRead, text_in};
-use crate::version_one::{is_kept, not_kept};
+use crate::text_reading::TextRead;
 use command_words::FileNames;
 use design_model::Memory;
 use drawing_comments::{TextComments, order_comments};
 use line_graph::Drawing;
 use near_pieces::{NearDrawing, near};
-use outside_io::Store;
 use program_shell::{Made, Product, text_bytes};
 use std::alloc::Global;
 
 /// Sews the pieces of each block of a drawing in an order with little travel.
-pub(crate) fn near_file<'a, S: Store>(
-    alloc: Global,
-    names: FileNames<'a>,
-    store: &mut S,
-) -> Made<'a>
-    requires { AreFileNames names }
-    ensures { RunsPlan (near_plan (near_file_order names.entry.input.now names.entry.output.now))
-        (S.view store.old) (S.view store.new) result }
-{
-    let text = text_in(alloc, store, names.input)?;
-    near_if_kept(alloc, names, &text)
-}
-
-/// Sews the pieces of a drawing near each other, if no line is cut.
-fn near_if_kept<'a>(alloc: Global, names: FileNames<'a>, text: &TextRead) -> Made<'a>
+pub(crate) fn near_text<'a>(alloc: Global, names: FileNames<'a>, text: &TextRead) -> Made<'a>
     requires names { AreFileNames names }
     requires ordered { HasOrderedEnds text.now.lines.drawing }
     requires comments { AreTextComments text.now.comments }
-    ensures { RunsPurePlan (near_drawing (near_file_order names.entry.input.now names.entry.output.now)
+    requires joined { is_joined text.now.lines.drawing ≡ true }
+    ensures { RunsPurePlan (near_kept (near_file_order names.entry.input.now names.entry.output.now)
         text.now) result }
 {
-    if !is_kept(alloc, &text.lines.drawing)? {
-        return Err(not_kept(alloc, names.input));
-    }
     let product = near_product(alloc, names.output, text)?;
     Ok(product)
 }

@@ -1,62 +1,26 @@
 ghost use Rattle.command_words.specs.ValidNames.{AreFileNames};
-ghost use Rattle.drawing_commands.specs.SpaceOrders.{IsSpaceProduct, space_kept, space_lines, space_order, space_plan};
+ghost use Rattle.drawing_commands.specs.SpaceOrders.{IsSpaceProduct, space_kept, space_order};
 ghost use Rattle.drawing_commands.specs.WholeProducts.{IsWhole};
 ghost use Rattle.drawing_comments.specs.CommentLaws.{AreTextComments};
 ghost use Rattle.line_graph.specs.EndOrders.{HasOrderedEnds};
 ghost use Rattle.program_shell.specs.Products.{product_value};
-ghost use Rattle.program_shell.specs.StepOutcomes.{RunsPlan, RunsPurePlan};
+ghost use Rattle.program_shell.specs.StepOutcomes.{RunsPurePlan};
 ghost use Rattle.std.specs.Prelude.{IfOk};
 
 use crate::space_failures::space_failure;
-use crate::text_reading::{TextRead, text_in};
-use crate::version_one::{is_kept, not_kept};
+use crate::text_reading::TextRead;
 use crate::whole_files::whole_product;
 use command_words::FileNames;
 use design_model::Memory;
 use drawing_comments::TextComments;
 use drawing_reports::describe_space;
 use line_graph::{Drawing, pieces};
-use outside_io::Store;
 use program_shell::{Made, Product};
 use spaced_lines::{SpacedDrawing, SpacingLimits, space};
 use std::alloc::Global;
 
-/// Spaces a drawing, and writes its lines whole, with its starts and ends.
-pub(crate) fn space_file<'a, S: Store>(
-    alloc: Global,
-    limits: SpacingLimits,
-    names: FileNames<'a>,
-    store: &mut S,
-) -> Made<'a>
-    requires { AreFileNames names }
-    ensures { RunsPlan (space_plan (space_order limits names.entry.input.now names.entry.output.now))
-        (S.view store.old) (S.view store.new) result }
-{
-    let text = text_in(alloc, store, names.input)?;
-    space_if_kept(alloc, limits, names, &text)
-}
-
-/// Spaces lines as they are drawn, if none of them is cut.
-fn space_if_kept<'a>(
-    alloc: Global,
-    limits: SpacingLimits,
-    names: FileNames<'a>,
-    text: &TextRead,
-) -> Made<'a>
-    requires names { AreFileNames names }
-    requires ordered { HasOrderedEnds text.now.lines.drawing }
-    requires comments { AreTextComments text.now.comments }
-    ensures { RunsPurePlan (space_lines (space_order limits names.entry.input.now names.entry.output.now)
-        text.now) result }
-{
-    if !is_kept(alloc, &text.lines.drawing)? {
-        return Err(not_kept(alloc, names.input));
-    }
-    space_lines_of(alloc, limits, names, text)
-}
-
-/// Spaces lines as they are drawn, with the starts and ends of their drawing.
-fn space_lines_of<'a>(
+/// Spaces lines as they are drawn, with the starts and ends of their drawing, and writes them whole.
+pub(crate) fn space_lines_of<'a>(
     alloc: Global,
     limits: SpacingLimits,
     names: FileNames<'a>,

@@ -1,7 +1,0 @@
-use Rattle.drawing_commands.proofs.Names.{settles_taken, snap_order, meet_read}
-use Rattle.drawing_commands.proofs.meeting.snap_file.Goals as goal
-
-pub returns : goal.returns
-returns g c = settles_taken _ _
-    (meet_read (snap_order c.args.gap c.args.keeps_copies c.args.names.input.now c.args.names.output.now)) _ _ _ _
-    c.in_ok-text.ensures.takes c.meet_if_kept.ensures
