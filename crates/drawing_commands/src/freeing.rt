@@ -50,6 +50,5 @@ fn free_product<'a>(
 {
     let freed = free(alloc, &lines.drawn, &lines.joined)?;
     let report = describe_free(alloc, freed.pieces.as_slice(), freed.found.as_slice())?;
-    let product = whole_product(alloc, output, comments, &lines.drawn, &freed.joined, report)?;
-    Ok(product)
+    whole_product(alloc, output, comments, &lines.drawn, &freed.joined, report)
 }

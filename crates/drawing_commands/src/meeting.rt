@@ -124,8 +124,7 @@ fn meet_product<'a>(
     let after = pieces(alloc, &met.joined)?;
     let text = described(alloc, report, met.counts, before.len(), after.len())?;
     let moved = spread_comments(alloc, comments, met.parts.as_slice())?;
-    let product = whole_product(alloc, output, &moved, &met.drawn, &met.joined, text)?;
-    Ok(product)
+    whole_product(alloc, output, &moved, &met.drawn, &met.joined, text)
 }
 
 /// Returns the report of a command on what was done to lines.

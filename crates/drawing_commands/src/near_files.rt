@@ -39,8 +39,7 @@ fn near_product<'a>(alloc: Global, output: &'a str, text: &TextRead) -> Result<P
     let found = near(alloc, &text.lines.drawing)?;
     let report = describe_near(alloc, &found)?;
     let comments = comments_near(alloc, text, &found.drawing)?;
-    let product = cut_product(alloc, output, &comments, &found.drawing, text_bytes(report))?;
-    Ok(product)
+    cut_product(alloc, output, &comments, &found.drawing, text_bytes(report))
 }
 
 /// Returns the comments of what was read, before the lines of the near drawing.
