@@ -7,7 +7,7 @@ use Rattle.edited_designs.specs.DesignChanges.{bared, needled, pictured, tied}
 use Rattle.edited_designs.specs.EditArguments.{parsed_changes}
 use Rattle.design_commands.specs.Commands.{design_mistake, design_order, telling}
 use Rattle.design_commands.specs.EditRequests.{RequestedDesign, compare, edit, help, list, look, palette, pass, version}
-use Rattle.design_commands.specs.Requests.{IsDesignEditRequest, parsed_design_words}
+use Rattle.design_commands.specs.Requests.{IsDesignEditRequest, parsed_command_words, parsed_design_words}
 use Rattle.design_commands.specs.Usage.{design_usage_text}
 
 -- arguments that request that
@@ -23,6 +23,7 @@ pub known_requests :
     × Requests (codes "compare" ∷ codes "a" ∷ codes "b" ∷ codes "--threads" ∷ []) (compare (codes "a") (codes "b") true)
     × Requests (codes "threads" ∷ codes "a" ∷ []) (list (codes "a")) × Requests (codes "threads" ∷ []) palette
     × Requests (codes "--help" ∷ []) help × Requests (codes "--version" ∷ []) version
+unfolding parsed_command_words
 known_requests = (refl, refl, refl, refl, refl, refl, refl, refl)
 
 pub known_edits :
@@ -30,6 +31,7 @@ pub known_edits :
     (edit (codes "a") (codes "b") (bared ∷ tied 7 ∷ needled ∷ []))
     × Requests (codes "edit" ∷ codes "a" ∷ codes "b" ∷ codes "thumbnails" ∷ codes "bare" ∷ [])
     (edit (codes "a") (codes "b") (pictured ∷ bared ∷ []))
+unfolding parsed_command_words
 known_edits = (refl, refl)
 
 -- arguments of which one isn't understood, over no format
@@ -41,6 +43,7 @@ pub known_commands : IsMistaken (codes "sew" ∷ []) (codes "sew") (codes "not a
     × (design_order [] (codes "--help" ∷ []) ≡ Some (telling design_usage_text))
     × (design_order [] (codes "--version" ∷ []) ≡ Some (telling (codes "stitch_design 0.4.0\n")))
     × (design_order [] [] ≡ None) × (design_mistake [] [] ≡ None) × (design_mistake [] (codes "threads" ∷ []) ≡ None)
+unfolding parsed_command_words
 known_commands = ((refl, refl), (refl, refl), refl, refl, refl, refl, refl)
 
 pub known_looks : IsMistaken (codes "look" ∷ []) (codes "look") (codes "needs a file")
@@ -49,6 +52,7 @@ pub known_looks : IsMistaken (codes "look" ∷ []) (codes "look") (codes "needs 
     × IsMistaken (codes "look" ∷ codes "a" ∷ codes "short=-1" ∷ codes "x" ∷ []) (codes "short=-1") (codes "from 0 to 1000")
     × IsMistaken (codes "pass" ∷ codes "a" ∷ codes "hole=1001" ∷ []) (codes "hole=1001") (codes "from 0 to 1000")
     × IsMistaken (codes "look" ∷ codes "a.rw" ∷ []) (codes "a.rw") (codes "no format has this ending")
+unfolding parsed_command_words
 known_looks = ((refl, refl), (refl, refl), (refl, refl), (refl, refl), (refl, refl), (refl, refl))
 
 pub known_comparisons : IsMistaken (codes "compare" ∷ []) (codes "compare") (codes "needs a file")
@@ -56,6 +60,7 @@ pub known_comparisons : IsMistaken (codes "compare" ∷ []) (codes "compare") (c
     × IsMistaken (codes "compare" ∷ codes "a" ∷ codes "b" ∷ codes "-t" ∷ []) (codes "-t") (codes "not understood")
     × IsMistaken (codes "threads" ∷ codes "a" ∷ codes "b" ∷ []) (codes "b") (codes "not understood")
     × IsMistaken (codes "compare" ∷ codes "a" ∷ codes "b" ∷ []) (codes "a") (codes "no format has this ending")
+unfolding parsed_command_words
 known_comparisons = ((refl, refl), (refl, refl), (refl, refl), (refl, refl), (refl, refl))
 
 pub known_edit_mistakes : IsMistaken (codes "edit" ∷ []) (codes "edit") (codes "needs a file")
@@ -65,6 +70,7 @@ pub known_edit_mistakes : IsMistaken (codes "edit" ∷ []) (codes "edit") (codes
     × IsMistaken (codes "edit" ∷ codes "a" ∷ codes "b" ∷ codes "tie" ∷ codes "strt=1" ∷ []) (codes "strt=1") (codes "not an edit")
     × IsMistaken (codes "edit" ∷ codes "a" ∷ codes "b" ∷ codes "tie=21" ∷ []) (codes "tie=21") (codes "from 2 to 20")
     × IsMistaken (codes "edit" ∷ codes "a" ∷ codes "b" ∷ codes "tie" ∷ []) (codes "a") (codes "no format has this ending")
+unfolding parsed_command_words
 known_edit_mistakes = ((refl, refl), (refl, refl), (refl, refl), (refl, refl), (refl, refl), (refl, refl), (refl, refl))
 
 -- the names of a request of edits are file names, and each edit is one

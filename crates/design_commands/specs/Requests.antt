@@ -89,7 +89,7 @@ parsed_threads (file ∷ []) =
 parsed_threads (file ∷ more ∷ rest) = Err (mistake_at more misfit.NotUnderstood)
 
 -- The request of a command and its arguments.
-abbrev pub parsed_command_words : (command : List ℕ) → List (List ℕ)
+unfoldable pub parsed_command_words : (command : List ℕ) → List (List ℕ)
     → Result RequestedDesign MistakenWord
 parsed_command_words command words =
     if bytes_eq command (codes "look") then parsed_review look command words

@@ -7,7 +7,7 @@ abbrev pub design_program_name : List ℕ
 design_program_name = codes "stitch_design"
 
 -- The usage text: the commands and their arguments.
-abbrev pub design_usage_text : List ℕ
+unfoldable pub design_usage_text : List ℕ
 design_usage_text = codes "usage: stitch_design look FILE [KEY=N...]" ++ (newline
     ++ (codes "       stitch_design pass FILE [KEY=N...]" ++ (newline
     ++ (codes "       stitch_design edit IN OUT EDIT..." ++ (newline

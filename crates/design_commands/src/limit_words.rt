@@ -2,7 +2,8 @@ ghost use Rattle.command_words.specs.Arguments.{natural_within, equals_sign};
 ghost use Rattle.design_commands.specs.LimitWords.{key_of_name, limits_if_key, limits_with, parsed_limits, usual_limits, with_limit};
 ghost use Rattle.design_commands.specs.Mistakes.{mistaken_word};
 ghost use Rattle.design_model.specs.WholeNumbers.{parsed_whole};
-ghost use Rattle.std.specs.Prelude.{◌≡◌, Err, IfErr, IfOk, Ok, map, string_bytes};
+ghost use Rattle.std.specs.Prelude.{◌≡◌, map, string_bytes};
+ghost use Rattle.std.specs.Result.{result_map_both};
 
 use crate::mistake::{Misfit, Mistake};
 use command_words::parse_natural;
@@ -37,9 +38,8 @@ pub fn usual() -> ReviewLimits
 
 /// Parses limits in order, from the usual ones on.
 pub fn parse_limits(words: &[String]) -> Result<ReviewLimits, Mistake<'_>>
-    ensures ok { IfOk result (λ limits. parsed_limits usual_limits (map string_bytes words.now) ≡ Ok limits) }
-    ensures err { IfErr result (λ mistake.
-        parsed_limits usual_limits (map string_bytes words.now) ≡ Err (mistaken_word mistake)) }
+    ensures said { parsed_limits usual_limits (map string_bytes words.now)
+        ≡ result_map_both (λ limits. limits) mistaken_word result }
 {
     let mut limits = usual();
     let mut rest = words;
@@ -51,8 +51,8 @@ pub fn parse_limits(words: &[String]) -> Result<ReviewLimits, Mistake<'_>>
 }
 
 fn limits_with(limits: ReviewLimits, word: &str) -> Result<ReviewLimits, Mistake<'_>>
-    ensures ok { IfOk result (λ next. limits_with limits word.now ≡ Ok next) }
-    ensures err { IfErr result (λ mistake. limits_with limits word.now ≡ Err (mistaken_word mistake)) }
+    ensures said { limits_with limits word.now
+        ≡ result_map_both (λ next. next) mistaken_word result }
 {
     match split_first(word.as_bytes(), b'=') {
         Some((name, value)) => limits_by_key(limits, word, name, value),
@@ -69,10 +69,8 @@ fn limits_by_key<'a>(
     name: &[u8],
     value: &[u8],
 ) -> Result<ReviewLimits, Mistake<'a>>
-    ensures ok { IfOk result (λ next.
-        limits_if_key limits word.now value.now (key_of_name name.now) ≡ Ok next) }
-    ensures err { IfErr result (λ mistake.
-        limits_if_key limits word.now value.now (key_of_name name.now) ≡ Err (mistaken_word mistake)) }
+    ensures said { limits_if_key limits word.now value.now (key_of_name name.now)
+        ≡ result_map_both (λ next. next) mistaken_word result }
 {
     let Some(key) = key_of(name) else {
         return Err(Mistake {
@@ -93,11 +91,11 @@ fn key_of(name: &[u8]) -> Option<LimitKey>
     ensures { result ≡ key_of_name name.now }
 {
     match name {
-        b"short" => Some(LimitKey::Short),
-        b"long" => Some(LimitKey::Long),
-        b"float" => Some(LimitKey::Float),
-        b"tie" => Some(LimitKey::Tie),
-        b"hole" => Some(LimitKey::Hole),
+        name if name == b"short".as_slice() => Some(LimitKey::Short),
+        name if name == b"long".as_slice() => Some(LimitKey::Long),
+        name if name == b"float".as_slice() => Some(LimitKey::Float),
+        name if name == b"tie".as_slice() => Some(LimitKey::Tie),
+        name if name == b"hole".as_slice() => Some(LimitKey::Hole),
         _ => None,
     }
 }

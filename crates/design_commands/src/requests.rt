@@ -1,10 +1,11 @@
 ghost use Rattle.design_commands.specs.Mistakes.{mistake_at, mistaken_word};
 ghost use Rattle.command_words.specs.ValidNames.{AreFileNames};
-ghost use Rattle.design_commands.specs.EditRequests.{compare, edits_after, edits_parsed, help, look, name_or_mistake, parsed_design_edit, pass, unless_input, version};
+ghost use Rattle.design_commands.specs.EditRequests.{compare, edits_after, edits_parsed, look, parsed_design_edit, pass, unless_input};
 ghost use Rattle.design_commands.specs.Requests.{HasDesignNames, parsed_alone, parsed_command_words, parsed_compare, parsed_compare_flag, parsed_compare_flags, parsed_design_words, parsed_review, parsed_threads, requested_design};
 ghost use Rattle.outside_io.specs.Files.{IsFileName, is_file_name};
 ghost use Rattle.design_commands.specs.declared.mistake.Misfit.TheVariants as misfit;
 ghost use Rattle.std.specs.Prelude.{◌≡◌, Err, IfErr, IfOk, List, Ok, false, map, option_map, string_bytes, true, ℕ};
+ghost use Rattle.std.specs.Result.{result_map_both};
 
 use crate::limit_words::parse_limits;
 use crate::mistake::{Misfit, Mistake};
@@ -66,14 +67,13 @@ pub fn request(words: &[String]) -> Result<DesignRequest<'_>, Option<Mistake<'_>
     }
 }
 
+#[tactic(auto, unfolding(crate::specs::Requests::parsed_command_words))]
 fn command_request<'a>(
     command: &'a str,
     words: &'a [String],
 ) -> Result<DesignRequest<'a>, Mistake<'a>>
-    ensures ok { IfOk result (λ requested.
-        parsed_command_words command.now (map string_bytes words.now) ≡ Ok (requested_design requested)) }
-    ensures err { IfErr result (λ mistake.
-        parsed_command_words command.now (map string_bytes words.now) ≡ Err (mistaken_word mistake)) }
+    ensures said { parsed_command_words command.now (map string_bytes words.now)
+        ≡ result_map_both requested_design mistaken_word result }
     ensures names { IfOk result HasDesignNames }
 {
     match command {
@@ -82,8 +82,8 @@ fn command_request<'a>(
         name if name == "edit" => edit_request(command, words),
         name if name == "compare" => compare_request(command, words),
         name if name == "threads" => threads_request(words),
-        name if name == "--help" => help_request(words),
-        name if name == "--version" => version_request(words),
+        name if name == "--help" => alone(DesignRequest::Help, words),
+        name if name == "--version" => alone(DesignRequest::Version, words),
         _ => Err(Mistake {
             word: command,
             why: Misfit::NotACommand,
@@ -92,10 +92,8 @@ fn command_request<'a>(
 }
 
 fn look_request<'a>(command: &'a str, words: &'a [String]) -> Result<DesignRequest<'a>, Mistake<'a>>
-    ensures ok { IfOk result (λ requested.
-        parsed_review look command.now (map string_bytes words.now) ≡ Ok (requested_design requested)) }
-    ensures err { IfErr result (λ mistake.
-        parsed_review look command.now (map string_bytes words.now) ≡ Err (mistaken_word mistake)) }
+    ensures said { parsed_review look command.now (map string_bytes words.now)
+        ≡ result_map_both requested_design mistaken_word result }
     ensures names { IfOk result HasDesignNames }
 {
     let [file, rest @ ..] = words else {
@@ -110,10 +108,8 @@ fn look_request<'a>(command: &'a str, words: &'a [String]) -> Result<DesignReque
 }
 
 fn pass_request<'a>(command: &'a str, words: &'a [String]) -> Result<DesignRequest<'a>, Mistake<'a>>
-    ensures ok { IfOk result (λ requested.
-        parsed_review pass command.now (map string_bytes words.now) ≡ Ok (requested_design requested)) }
-    ensures err { IfErr result (λ mistake.
-        parsed_review pass command.now (map string_bytes words.now) ≡ Err (mistaken_word mistake)) }
+    ensures said { parsed_review pass command.now (map string_bytes words.now)
+        ≡ result_map_both requested_design mistaken_word result }
     ensures names { IfOk result HasDesignNames }
 {
     let [file, rest @ ..] = words else {
@@ -128,10 +124,8 @@ fn pass_request<'a>(command: &'a str, words: &'a [String]) -> Result<DesignReque
 }
 
 fn edit_request<'a>(command: &'a str, words: &'a [String]) -> Result<DesignRequest<'a>, Mistake<'a>>
-    ensures ok { IfOk result (λ requested.
-        parsed_design_edit command.now (map string_bytes words.now) ≡ Ok (requested_design requested)) }
-    ensures err { IfErr result (λ mistake.
-        parsed_design_edit command.now (map string_bytes words.now) ≡ Err (mistaken_word mistake)) }
+    ensures said { parsed_design_edit command.now (map string_bytes words.now)
+        ≡ result_map_both requested_design mistaken_word result }
     ensures names { IfOk result HasDesignNames }
 {
     match words {
@@ -157,10 +151,8 @@ fn some_edits<'a>(
     edits: &'a [String],
 ) -> Result<DesignRequest<'a>, Mistake<'a>>
     requires { AreFileNames names }
-    ensures ok { IfOk result (λ requested. edits_after names.entry.input.now names.entry.output.now
-        (map string_bytes edits.now) ≡ Ok (requested_design requested)) }
-    ensures err { IfErr result (λ mistake. edits_after names.entry.input.now names.entry.output.now
-        (map string_bytes edits.now) ≡ Err (mistaken_word mistake)) }
+    ensures said { edits_after names.entry.input.now names.entry.output.now (map string_bytes edits.now)
+        ≡ result_map_both requested_design mistaken_word result }
     ensures names { IfOk result HasDesignNames }
 {
     match edits {
@@ -177,10 +169,8 @@ fn edits_request<'a>(
     edits: &'a [String],
 ) -> Result<DesignRequest<'a>, Mistake<'a>>
     requires { AreFileNames names }
-    ensures ok { IfOk result (λ requested. edits_parsed names.entry.input.now names.entry.output.now
-        (map string_bytes edits.now) ≡ Ok (requested_design requested)) }
-    ensures err { IfErr result (λ mistake. edits_parsed names.entry.input.now names.entry.output.now
-        (map string_bytes edits.now) ≡ Err (mistaken_word mistake)) }
+    ensures said { edits_parsed names.entry.input.now names.entry.output.now (map string_bytes edits.now)
+        ≡ result_map_both requested_design mistaken_word result }
     ensures names { IfOk result HasDesignNames }
 {
     match first_mistaken_edit(edits) {
@@ -195,8 +185,8 @@ fn edits_request<'a>(
 /// Returns the name of the output, if it differs from that of the input.
 fn apart<'a>(input: &str, output: &'a str) -> Result<&'a str, Mistake<'a>>
     requires { IsFileName output.now }
-    ensures ok { IfOk result (λ name. unless_input input.now output.now ≡ Ok name.now) }
-    ensures err { IfErr result (λ mistake. unless_input input.now output.now ≡ Err (mistaken_word mistake)) }
+    ensures said { unless_input input.now output.now
+        ≡ result_map_both (λ name. name.now) mistaken_word result }
     ensures name { IfOk result (λ name. IsFileName name.now) }
 {
     if input == output {
@@ -213,10 +203,8 @@ fn compare_request<'a>(
     command: &'a str,
     words: &'a [String],
 ) -> Result<DesignRequest<'a>, Mistake<'a>>
-    ensures ok { IfOk result (λ requested.
-        parsed_compare command.now (map string_bytes words.now) ≡ Ok (requested_design requested)) }
-    ensures err { IfErr result (λ mistake.
-        parsed_compare command.now (map string_bytes words.now) ≡ Err (mistaken_word mistake)) }
+    ensures said { parsed_compare command.now (map string_bytes words.now)
+        ≡ result_map_both requested_design mistaken_word result }
     ensures names { IfOk result HasDesignNames }
 {
     match words {
@@ -243,10 +231,8 @@ fn compare_request<'a>(
 
 /// Parses the arguments of `compare` after its files: whether the threads are compared.
 fn compare_flags(words: &[String]) -> Result<bool, Mistake<'_>>
-    ensures ok { IfOk result (λ threads. (a b : List ℕ) →
-        parsed_compare_flags a b (map string_bytes words.now) ≡ Ok (compare a b threads)) }
-    ensures err { IfErr result (λ mistake. (a b : List ℕ) →
-        parsed_compare_flags a b (map string_bytes words.now) ≡ Err (mistaken_word mistake)) }
+    ensures said { (a b : List ℕ) → parsed_compare_flags a b (map string_bytes words.now)
+        ≡ result_map_both (λ threads. compare a b threads) mistaken_word result }
 {
     match words {
         [] => Ok(false),
@@ -255,10 +241,8 @@ fn compare_flags(words: &[String]) -> Result<bool, Mistake<'_>>
 }
 
 fn compare_flag<'a>(flag: &'a str, words: &'a [String]) -> Result<bool, Mistake<'a>>
-    ensures ok { IfOk result (λ threads. (a b : List ℕ) →
-        parsed_compare_flag a b flag.now (map string_bytes words.now) ≡ Ok (compare a b threads)) }
-    ensures err { IfErr result (λ mistake. (a b : List ℕ) →
-        parsed_compare_flag a b flag.now (map string_bytes words.now) ≡ Err (mistaken_word mistake)) }
+    ensures said { (a b : List ℕ) → parsed_compare_flag a b flag.now (map string_bytes words.now)
+        ≡ result_map_both (λ threads. compare a b threads) mistaken_word result }
 {
     if flag != "--threads" {
         return Err(Mistake {
@@ -276,10 +260,8 @@ fn compare_flag<'a>(flag: &'a str, words: &'a [String]) -> Result<bool, Mistake<
 }
 
 fn threads_request(words: &[String]) -> Result<DesignRequest<'_>, Mistake<'_>>
-    ensures ok { IfOk result (λ requested.
-        parsed_threads (map string_bytes words.now) ≡ Ok (requested_design requested)) }
-    ensures err { IfErr result (λ mistake.
-        parsed_threads (map string_bytes words.now) ≡ Err (mistaken_word mistake)) }
+    ensures said { parsed_threads (map string_bytes words.now)
+        ≡ result_map_both requested_design mistaken_word result }
     ensures names { IfOk result HasDesignNames }
 {
     match words {
@@ -295,31 +277,18 @@ fn threads_request(words: &[String]) -> Result<DesignRequest<'_>, Mistake<'_>>
     }
 }
 
-fn help_request(words: &[String]) -> Result<DesignRequest<'_>, Mistake<'_>>
-    ensures ok { IfOk result (λ requested.
-        parsed_alone help (map string_bytes words.now) ≡ Ok (requested_design requested)) }
-    ensures err { IfErr result (λ mistake.
-        parsed_alone help (map string_bytes words.now) ≡ Err (mistaken_word mistake)) }
+/// Returns a request after which no argument is left.
+fn alone<'a>(
+    requested: DesignRequest<'a>,
+    words: &'a [String],
+) -> Result<DesignRequest<'a>, Mistake<'a>>
+    requires { HasDesignNames requested }
+    ensures said { parsed_alone (requested_design requested.entry) (map string_bytes words.now)
+        ≡ result_map_both requested_design mistaken_word result }
     ensures names { IfOk result HasDesignNames }
 {
     match words {
-        [] => Ok(DesignRequest::Help),
-        [word, ..] => Err(Mistake {
-            word: word.as_str(),
-            why: Misfit::NotUnderstood,
-        }),
-    }
-}
-
-fn version_request(words: &[String]) -> Result<DesignRequest<'_>, Mistake<'_>>
-    ensures ok { IfOk result (λ requested.
-        parsed_alone version (map string_bytes words.now) ≡ Ok (requested_design requested)) }
-    ensures err { IfErr result (λ mistake.
-        parsed_alone version (map string_bytes words.now) ≡ Err (mistaken_word mistake)) }
-    ensures names { IfOk result HasDesignNames }
-{
-    match words {
-        [] => Ok(DesignRequest::Version),
+        [] => Ok(requested),
         [word, ..] => Err(Mistake {
             word: word.as_str(),
             why: Misfit::NotUnderstood,

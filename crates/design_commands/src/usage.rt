@@ -11,6 +11,7 @@ use program_texts::{UsageText, usage_after, usage_alone};
 pub const NAME: &[u8] = b"stitch_design";
 
 /// Returns the usage text.
+#[tactic(auto, unfolding(crate::specs::Usage::design_usage_text))]
 pub fn usage() -> &'static [u8]
     ensures value { result.now ≡ design_usage_text }
     ensures short { length result.now ≤ MAX_USAGE }
