@@ -2,6 +2,7 @@ use super::comparisons::{compare, compare_row};
 use crate::stitch;
 use design_edits::{Axis, EditFault, MAX_SHIFT, mirror, recolour, shift, turn};
 use design_model::{Command, Design, ModelFault, Point};
+use std::alloc::Global;
 use std::process::Abort;
 use std::test::Fail;
 use test_values::{design_of, large};
@@ -18,15 +19,16 @@ const SAMPLE: [Command; 5] = [
     Command::Stitch(Point { x: -2, y: 7 }),
 ];
 
-fn filled(rt: &HostRuntime, commands: &[Command]) -> Result<Design, ModelFault> {
-    let mut design = design_of(rt.alloc(), commands)?;
+/// Returns a design of the given commands in thread 9.
+pub fn filled(alloc: Global, commands: &[Command]) -> Result<Design, ModelFault> {
+    let mut design = design_of(alloc, commands)?;
     design.push_thread(9);
     Ok(design)
 }
 
 #[test]
 fn a_quarter_turn_takes_the_right_downwards(rt: HostRuntime) -> Result<(), Fail> {
-    let mut design = filled(&rt, &SAMPLE)?;
+    let mut design = filled(rt.alloc(), &SAMPLE)?;
     turn(&mut design, 1);
     let turned = [
         stitch(0, 30),
@@ -47,7 +49,7 @@ fn a_quarter_turn_takes_the_right_downwards(rt: HostRuntime) -> Result<(), Fail>
 
 #[test]
 fn a_mirroring_changes_the_signs_of_one_axis(rt: HostRuntime) -> Result<(), Fail> {
-    let mut design = filled(&rt, &SAMPLE)?;
+    let mut design = filled(rt.alloc(), &SAMPLE)?;
     mirror(&mut design, Axis::Y);
     compare(&rt, design.commands().last(), Some(&stitch(-2, -7)));
     mirror(&mut design, Axis::X);
@@ -87,7 +89,7 @@ const SHIFTS: [(i32, i32, Result<(), EditFault>, Point); 5] = [
 #[test]
 fn a_shift_out_of_range_changes_nothing(rt: HostRuntime) -> Result<(), Fail> {
     for (dx, dy, answer, first) in &SHIFTS {
-        let mut design = filled(&rt, &SAMPLE)?;
+        let mut design = filled(rt.alloc(), &SAMPLE)?;
         if dx.unsigned_abs() <= MAX_SHIFT && dy.unsigned_abs() <= MAX_SHIFT {
             compare_row(&rt, (*dx, *dy), &shift(&mut design, *dx, *dy), answer);
         }
@@ -103,7 +105,7 @@ fn a_shift_out_of_range_changes_nothing(rt: HostRuntime) -> Result<(), Fail> {
 
 #[test]
 fn a_needle_at_one_may_go_to_the_edge(rt: HostRuntime) -> Result<(), Fail> {
-    let mut design = filled(&rt, &[stitch(1, 0)])?;
+    let mut design = filled(rt.alloc(), &[stitch(1, 0)])?;
     let refused = Err(EditFault::Range { number: 1 });
     compare(&rt, shift(&mut design, 30_000, 0), refused);
     compare(&rt, shift(&mut design, 29_999, 0), Ok(()));
@@ -113,7 +115,7 @@ fn a_needle_at_one_may_go_to_the_edge(rt: HostRuntime) -> Result<(), Fail> {
 
 #[test]
 fn a_block_gets_a_thread_and_the_others_keep_theirs(rt: HostRuntime) -> Result<(), Fail> {
-    let mut design = filled(&rt, &[Command::Stop, Command::Stop, Command::Stop])?;
+    let mut design = filled(rt.alloc(), &[Command::Stop, Command::Stop, Command::Stop])?;
     compare(&rt, recolour(&mut design, 3, 7), Ok(()));
     compare(&rt, design.threads(), &[9, 2, 3, 7]);
     compare(&rt, recolour(&mut design, 1, 0), Ok(()));
@@ -126,7 +128,7 @@ fn a_block_gets_a_thread_and_the_others_keep_theirs(rt: HostRuntime) -> Result<(
 
 #[test]
 fn there_are_at_most_255_places(rt: HostRuntime) -> Result<(), Fail> {
-    let mut design = filled(&rt, &[Command::Stop; 300])?;
+    let mut design = filled(rt.alloc(), &[Command::Stop; 300])?;
     let refused = Err(EditFault::NoPlace { count: 255 });
     compare(&rt, recolour(&mut design, 255, 7), refused);
     compare(&rt, recolour(&mut design, 254, 7), Ok(()));

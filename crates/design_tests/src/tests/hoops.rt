@@ -1,27 +1,28 @@
 use super::comparisons::{compare, compare_row};
 use crate::stitch;
-use design_model::{Command, Design, ModelFault, Point};
+use design_model::{Command, Point};
 use hoop_check::{Fit, fits};
 use std::test::Fail;
-use test_values::large;
+use test_values::{design_of, large};
 
-fn sewn(rt: &HostRuntime, points: &[(i32, i32)]) -> Result<Design, ModelFault> {
-    let mut design = Design::new(rt.alloc());
-    design.push(Command::Jump(Point { x: 900, y: -900 }))?;
-    for (x, y) in points {
-        design.push(Command::Stitch(Point { x: *x, y: *y }))?;
-    }
-    Ok(design)
+/// Needles after a jump that leads outside of all hoops.
+macro_rules! sewn {
+    ($(($x:expr, $y:expr)),*) => {
+        [
+            Command::Jump(Point { x: 900, y: -900 }),
+            $(Command::Stitch(Point { x: $x, y: $y })),*
+        ]
+    };
 }
 
-const CORNER: [(i32, i32); 3] = [(0, 0), (30, 0), (30, 30)];
+const CORNER: [Command; 4] = sewn!((0, 0), (30, 0), (30, 30));
 
-const LINE: [(i32, i32); 2] = [(0, 0), (30, 0)];
+const LINE: [Command; 3] = sewn!((0, 0), (30, 0));
 
-const SLANT: [(i32, i32); 2] = [(7, -1), (-5, 3)];
+const SLANT: [Command; 3] = sewn!((7, -1), (-5, 3));
 
-/// Needles, the width and the height of a hoop, and whether they fit into it.
-const FITS: [(&[(i32, i32)], u32, u32, Fit); 8] = [
+/// Commands, the width and the height of a hoop, and whether the needles fit into it.
+const FITS: [(&[Command], u32, u32, Fit); 8] = [
     (&CORNER, 30, 30, Fit::Upright),
     (
         &CORNER,
@@ -53,13 +54,13 @@ const FITS: [(&[(i32, i32)], u32, u32, Fit); 8] = [
             over_y: 0,
         },
     ),
-    (&[], 0, 0, Fit::Upright),
+    (&sewn!(), 0, 0, Fit::Upright),
 ];
 
 #[test]
 fn a_design_fits_upright_turned_or_not(rt: HostRuntime) -> Result<(), Fail> {
-    for (points, w, h, fit) in &FITS {
-        let design = sewn(&rt, points)?;
+    for (commands, w, h, fit) in &FITS {
+        let design = design_of(rt.alloc(), commands)?;
         compare_row(&rt, (*w, *h), &fits(&design, *w, *h), fit);
     }
     Ok(())

@@ -1,15 +1,21 @@
 use super::comparisons::compare_row;
 use crate::stitch;
-use design_model::{Command, Design, Memory, Point};
+use design_model::{Command, Point};
 use design_picture::{Hoop, picture};
 use memchr::memmem;
 use std::alloc::Global;
 use std::test::Fail;
 use test_values::design_of;
 
-/// Returns whether the picture of a design in a hoop has the given part.
-fn shows(alloc: Global, design: &Design, hoop: Option<Hoop>, part: &str) -> Result<bool, Memory> {
-    let text = picture(alloc, design, hoop, None)?;
+/// Returns whether the picture of commands in a hoop has the given part.
+fn shows(
+    alloc: Global,
+    commands: &[Command],
+    hoop: Option<Hoop>,
+    part: &str,
+) -> Result<bool, Fail> {
+    let design = design_of(alloc, commands)?;
+    let text = picture(alloc, &design, hoop, None)?;
     Ok(memmem::find(text.as_slice(), part.as_bytes()).is_some())
 }
 
@@ -48,8 +54,8 @@ const PICTURES: [([Command; 3], &str); 4] = [
 #[test]
 fn a_picture_shows_the_acts_in_order(rt: HostRuntime) -> Result<(), Fail> {
     for (commands, part) in &PICTURES {
-        let design = design_of(rt.alloc(), commands)?;
-        compare_row(&rt, *part, shows(rt.alloc(), &design, None, part)?, true);
+        let shown = shows(rt.alloc(), commands, None, part)?;
+        compare_row(&rt, *part, shown, true);
     }
     Ok(())
 }
@@ -75,13 +81,13 @@ const HOOPS: [(u32, u32, &str); 3] = [
 
 #[test]
 fn a_hoop_that_is_too_small_is_red(rt: HostRuntime) -> Result<(), Fail> {
-    let design = design_of(rt.alloc(), &[stitch(0, 0), stitch(300, 100)])?;
+    let commands = [stitch(0, 0), stitch(300, 100)];
     for (width, height, part) in &HOOPS {
         let hoop = Hoop {
             width: *width,
             height: *height,
         };
-        let shown = shows(rt.alloc(), &design, Some(hoop), part)?;
+        let shown = shows(rt.alloc(), &commands, Some(hoop), part)?;
         compare_row(&rt, *part, shown, true);
     }
     Ok(())

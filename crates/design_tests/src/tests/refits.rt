@@ -1,4 +1,5 @@
 use super::comparisons::{compare, compare_row};
+use super::edits::filled;
 use crate::stitch;
 use design_model::{
     Command, Design, MAX_COMMANDS, ModelFault, NEEDLE_LIMIT, Point, Points, counts,
@@ -7,7 +8,7 @@ use std::alloc::Global;
 use std::process::Abort;
 use std::test::Fail;
 use step_splitter::{MAX_STEP, RefitFault, RefitMode, refit, split, steps};
-use test_values::{design_of, large};
+use test_values::large;
 
 macro_rules! points {
     ($(($x:expr, $y:expr)),*) => { [$(Point { x: $x, y: $y }),*] };
@@ -97,12 +98,6 @@ fn the_ends_of_the_steps_are_rounded_towards_the_lesser_number(
 
 fn jump(x: i32, y: i32) -> Command {
     Command::Jump(Point { x, y })
-}
-
-fn filled(alloc: Global, commands: &[Command]) -> Result<Design, ModelFault> {
-    let mut design = design_of(alloc, commands)?;
-    design.push_thread(9);
-    Ok(design)
 }
 
 fn fitted(

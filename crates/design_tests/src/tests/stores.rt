@@ -11,6 +11,7 @@ use std::alloc::{AllocError, Global};
 use std::io::Write;
 use std::os::unix::fs::symlink;
 use std::process::Abort;
+use std::rt::Files;
 use std::test::Fail;
 use std::{fs, io};
 use test_values::repeated;
@@ -35,12 +36,8 @@ const OTHER: &str = "outside_io_kept/b";
 
 /// Bytes that differ from their neighbours, and whose order shows over more than one read.
 fn pattern(alloc: Global, count: usize) -> Result<Vec<u8>, AllocError> {
-    pattern_from(alloc, 0, count)
-}
-
-fn pattern_from(alloc: Global, start: usize, end: usize) -> Result<Vec<u8>, AllocError> {
     let mut bytes = Vec::new(alloc);
-    for place in start..end {
+    for place in 0..count {
         bytes.push((place % 251) as u8)?;
     }
     Ok(bytes)
@@ -106,21 +103,34 @@ const SIZES: [usize; 10] = [
     0, 1, 16_383, 16_384, 16_385, 32_768, 39_999, 40_000, 40_001, 65_536,
 ];
 
+/// Compares the content of a file, if it has at most `limit` bytes, or the fault of reading it with what is wanted.
+fn compare_whole<S: Store>(
+    rt: &impl Abort,
+    alloc: Global,
+    store: &mut S,
+    name: &str,
+    limit: u64,
+    wanted: Result<&[u8], &GetFault>,
+)
+    requires name { IsFileName name.now }
+    requires limit { limit ≤ MAX_FILE }
+{
+    let got = read_whole(alloc, store, name, limit);
+    compare_row(rt, limit, got.as_ref().map(Bytes::as_slice), wanted);
+}
+
 #[test]
 fn a_whole_file_is_read_up_to_the_limit(rt: HostRuntime) -> Result<(), Fail> {
-    let limit = 40_000;
     for count in &SIZES {
         let bytes = pattern(rt.alloc(), *count)?;
         let mut store = MemStore::new(rt.alloc());
         store.put_file("a", bytes.as_slice())?;
-        let got = read_whole(rt.alloc(), &mut store, "a", limit);
-        let found = got.as_ref().map(Bytes::as_slice);
         let wanted = if *count <= 40_000 {
             Ok(bytes.as_slice())
         } else {
             Err(&GetFault::TooLong)
         };
-        compare_row(&rt, *count, found, wanted);
+        compare_whole(&rt, rt.alloc(), &mut store, "a", 40_000, wanted);
     }
     Ok(())
 }
@@ -131,14 +141,29 @@ fn a_missing_file_and_a_failed_read_are_told_apart(rt: HostRuntime) -> Result<()
     let mut store = MemStore::new(rt.alloc());
     store.put_file("a", bytes.as_slice())?;
     store.fail_at(3)?;
-    let missing = read_whole(rt.alloc(), &mut store, "b", 5_000).err();
-    compare(&rt, missing, Some(GetFault::Missing));
-    let failed = read_whole(rt.alloc(), &mut store, "a", 5_000).err();
-    compare(&rt, failed, Some(GetFault::Failed));
-    compare(
+    compare_whole(
         &rt,
-        read_whole(rt.alloc(), &mut store, "a", 5_000).is_ok(),
-        true,
+        rt.alloc(),
+        &mut store,
+        "b",
+        5_000,
+        Err(&GetFault::Missing),
+    );
+    compare_whole(
+        &rt,
+        rt.alloc(),
+        &mut store,
+        "a",
+        5_000,
+        Err(&GetFault::Failed),
+    );
+    compare_whole(
+        &rt,
+        rt.alloc(),
+        &mut store,
+        "a",
+        5_000,
+        Ok(bytes.as_slice()),
     );
     Ok(())
 }
@@ -180,79 +205,86 @@ fn compare_bytes<S: Store>(rt: &impl Abort, store: &mut S, name: &str, at: u64, 
     compare_row(rt, at, buffer.get(..wanted.len()), Some(wanted));
 }
 
+/// Makes a file twice, the second time in two parts, and compares what is read of it with the given bytes.
+fn compare_made<R: Abort + Files>(rt: &R, alloc: Global, name: &str, bytes: &[u8])
+    requires name { IsFileName name.now }
+{
+    let (first, second) = bytes.split_at_checked(9_000).unwrap_or((bytes, &[]));
+    let mut store = DirStore::new(alloc, rt);
+    compare(rt, store.create(name), Ok(()));
+    compare(rt, store.append(name, b"emptied"), Ok(()));
+    compare(rt, store.create(name), Ok(()));
+    compare(rt, store.append(name, first), Ok(()));
+    compare(rt, store.append(name, second), Ok(()));
+    compare_whole(rt, alloc, &mut store, name, 10_000, Ok(bytes));
+    compare_bytes(rt, &mut store, name, 9_998, &[209, 210]);
+}
+
 #[test]
 fn real_files_are_made_and_read(rt: HostRuntime) -> Result<(), Fail> {
     let _ = fs::remove_dir_all(&rt, FOLDER);
     fs::create_dir(&rt, FOLDER)?;
-    let mut bytes = pattern(rt.alloc(), 9_000)?;
-    let more = pattern(rt.alloc(), 1_000)?;
-    let mut store = DirStore::new(rt.alloc(), &rt);
-    compare(&rt, store.create(NAME), Ok(()));
-    compare(&rt, store.append(NAME, b"emptied"), Ok(()));
-    compare(&rt, store.create(NAME), Ok(()));
-    compare(&rt, store.append(NAME, bytes.as_slice()), Ok(()));
-    compare(&rt, store.append(NAME, more.as_slice()), Ok(()));
-    bytes.extend_from_slice(more.as_slice())?;
-    match read_whole(rt.alloc(), &mut store, NAME, 10_000) {
-        Ok(got) => compare(&rt, got.as_slice(), bytes.as_slice()),
-        Err(fault) => panic!(rt; "{fault:?}"),
-    }
-    compare_bytes(&rt, &mut store, NAME, 9_998, &[245, 246]);
+    let bytes = pattern(rt.alloc(), 10_000)?;
+    compare_made(&rt, rt.alloc(), NAME, bytes.as_slice());
     fs::remove_dir_all(&rt, FOLDER)?;
     Ok(())
 }
 
-#[test]
-fn real_files_that_are_missing_are_faults(rt: HostRuntime) -> Result<(), Fail> {
-    let mut store = DirStore::new(rt.alloc(), &rt);
-    let name = "outside_io_no_folder/a";
-    let got = read_whole(rt.alloc(), &mut store, name, 9).err();
-    compare(&rt, got, Some(GetFault::Failed));
-    compare(&rt, store.append(name, b"x"), Err(Failed));
-    compare(&rt, store.create(name), Err(Failed));
-    Ok(())
+/// Compares the faults of each call over a real name under which no file can be.
+fn compare_failed<R: Abort + Files>(rt: &R, alloc: Global, name: &str)
+    requires name { IsFileName name.now }
+{
+    let mut store = DirStore::new(alloc, rt);
+    compare(rt, store.append(name, b"x"), Err(Failed));
+    compare(rt, store.create(name), Err(Failed));
+    compare_whole(rt, alloc, &mut store, name, 9, Err(&GetFault::Failed));
 }
 
 #[test]
-fn a_real_fault_is_told_as_one(rt: HostRuntime) -> Result<(), Fail> {
-    let mut store = DirStore::new(rt.alloc(), &rt);
-    compare(&rt, store.append("/dev/full", b"x"), Err(Failed));
-    compare(&rt, store.append("/", b"x"), Err(Failed));
-    compare(&rt, store.create("/"), Err(Failed));
-    let got = read_whole(rt.alloc(), &mut store, "/", 9).err();
-    compare(&rt, got, Some(GetFault::Failed));
-    Ok(())
+fn a_real_fault_is_told_as_one(rt: HostRuntime) {
+    compare_failed(&rt, rt.alloc(), "outside_io_no_folder/a");
+    compare_failed(&rt, rt.alloc(), "/");
 }
 
 #[test]
-fn a_real_fault_of_a_read_is_told_as_one(rt: HostRuntime) -> Result<(), Fail> {
+fn a_real_fault_of_a_read_or_an_append_is_told_as_one(rt: HostRuntime) -> Result<(), Fail> {
     let mut store = DirStore::new(rt.alloc(), &rt);
     let mut buffer = [7u8; 2];
     let got = store.read_at("/", 0, &mut buffer);
     compare(&rt, got, Err(ReadStop::Failed));
+    compare(&rt, store.append("/dev/full", b"x"), Err(Failed));
     compare(&rt, store.append("/dev/null", b"x"), Ok(()));
     compare_bytes(&rt, &mut store, "/dev/null", 0, &[]);
     Ok(())
+}
+
+/// Makes a file of the given bytes, and another of all but the first 100 of them, and compares what is read of both in
+/// turn.
+fn compare_turns<R: Abort + Files>(rt: &R, alloc: Global, first: &str, second: &str, bytes: &[u8])
+    requires first { IsFileName first.now }
+    requires second { IsFileName second.now }
+{
+    let mut store = DirStore::new(alloc, rt);
+    compare(rt, store.create(first), Ok(()));
+    compare(rt, store.create(second), Ok(()));
+    compare(rt, store.append(first, bytes), Ok(()));
+    let (_, rest) = bytes.split_at_checked(100).unwrap_or((bytes, &[]));
+    compare(rt, store.append(second, rest), Ok(()));
+    compare_bytes(rt, &mut store, first, 0, &[0, 1, 2]);
+    compare_bytes(rt, &mut store, second, 2, &[102, 103, 104]);
+    compare_bytes(rt, &mut store, first, 4, &[4, 5, 6]);
+    compare_bytes(rt, &mut store, first, 8, &[8, 9, 10]);
+    compare_bytes(rt, &mut store, second, 59_899, &[10]);
+    compare_bytes(rt, &mut store, second, 59_900, &[]);
+    compare_bytes(rt, &mut store, first, 59_900, &[162, 163, 164]);
 }
 
 #[test]
 fn two_real_files_are_read_in_turn(rt: HostRuntime) -> Result<(), Fail> {
     let _ = fs::remove_dir_all(&rt, TWO_FOLDER);
     fs::create_dir(&rt, TWO_FOLDER)?;
-    let mut store = DirStore::new(rt.alloc(), &rt);
-    compare(&rt, store.create(FIRST), Ok(()));
-    compare(&rt, store.create(SECOND), Ok(()));
     let bytes = pattern(rt.alloc(), 60_000)?;
-    compare(&rt, store.append(FIRST, bytes.as_slice()), Ok(()));
-    let bytes = pattern_from(rt.alloc(), 100, 60_000)?;
-    compare(&rt, store.append(SECOND, bytes.as_slice()), Ok(()));
-    compare_bytes(&rt, &mut store, FIRST, 0, &[0, 1, 2]);
-    compare_bytes(&rt, &mut store, SECOND, 2, &[102, 103, 104]);
-    compare_bytes(&rt, &mut store, FIRST, 4, &[4, 5, 6]);
-    compare_bytes(&rt, &mut store, FIRST, 8, &[8, 9, 10]);
-    compare_bytes(&rt, &mut store, SECOND, 59_899, &[10]);
-    compare_bytes(&rt, &mut store, SECOND, 59_900, &[]);
-    compare_bytes(&rt, &mut store, FIRST, 59_900, &[162, 163, 164]);
+    compare_turns(&rt, rt.alloc(), FIRST, SECOND, bytes.as_slice());
     fs::remove_dir_all(&rt, TWO_FOLDER)?;
     Ok(())
 }
@@ -275,13 +307,16 @@ fn make_anew(rt: &HostRuntime, name: &str) -> io::Result<[bool; 4]>
     Ok([made, kept, taken, replaced])
 }
 
-/// Makes a real file and then another, by which the first is empty, and returns of each step whether it went well.
-fn make_two(rt: &HostRuntime) -> io::Result<[bool; 4]> {
+/// Makes a real file and then the other, by which the first is empty, and returns of each step whether it went well.
+fn make_two(rt: &HostRuntime, name: &str, other: &str) -> io::Result<[bool; 4]>
+    requires name { IsFileName name.now }
+    requires other { IsFileName other.now }
+{
     let mut store = DirStore::new(rt.alloc(), rt);
-    let made = store.create(KEPT).is_ok();
-    let other = store.create(OTHER).is_ok();
-    let empty = has(rt, KEPT, b"")?;
-    Ok([made, other, empty, store.append(OTHER, b"new").is_ok()])
+    let made = store.create(name).is_ok();
+    let next = store.create(other).is_ok();
+    let empty = has(rt, name, b"")?;
+    Ok([made, next, empty, store.append(other, b"new").is_ok()])
 }
 
 #[test]
@@ -293,7 +328,7 @@ fn a_real_file_stays_until_the_new_one_is_down(rt: HostRuntime) -> Result<(), Fa
     compare(&rt, make_anew(&rt, KEPT)?, [true; 4]);
     compare(&rt, make_anew(&rt, LINK)?, [true; 4]);
     compare(&rt, fs::symlink_metadata(&rt, LINK)?.is_symlink(), true);
-    compare(&rt, make_two(&rt)?, [true; 4]);
+    compare(&rt, make_two(&rt, KEPT, OTHER)?, [true; 4]);
     fs::remove_file(&rt, KEPT)?;
     fs::remove_file(&rt, LINK)?;
     fs::remove_file(&rt, OTHER)?;
@@ -302,20 +337,27 @@ fn a_real_file_stays_until_the_new_one_is_down(rt: HostRuntime) -> Result<(), Fa
 }
 
 #[test]
-fn a_store_and_a_sink_take_as_much_as_a_real_file(rt: HostRuntime) -> Result<(), Fail> {
+fn a_store_takes_as_much_as_a_real_file(rt: HostRuntime) -> Result<(), Fail> {
     let bytes = pattern(rt.alloc(), 150_000)?;
+    let twice = repeated(rt.alloc(), b"", bytes.as_slice(), 2, b"")?;
     let mut store = MemStore::new(rt.alloc());
     store.put_file("x", b"other")?;
     store.put_file("y", bytes.as_slice())?;
     store.prepare("y", 300_000)?;
     compare(&rt, store.append("y", bytes.as_slice()), Ok(()));
-    match read_whole(rt.alloc(), &mut store, "y", 300_000) {
-        Ok(whole) => {
-            compare(&rt, whole.len(), 300_000);
-            compare(&rt, whole.as_slice().get(299_999), Some(&152));
-        }
-        Err(fault) => panic!(rt; "{fault:?}"),
-    }
+    compare_whole(
+        &rt,
+        rt.alloc(),
+        &mut store,
+        "y",
+        300_000,
+        Ok(twice.as_slice()),
+    );
+    Ok(())
+}
+
+#[test]
+fn a_sink_takes_as_much_as_a_real_file(rt: HostRuntime) -> Result<(), Fail> {
     let mut sink = MemSink::new(rt.alloc(), 200_000)?;
     let piece = pattern(rt.alloc(), 1_000)?;
     for _ in 0..200 {
