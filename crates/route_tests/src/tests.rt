@@ -1,5 +1,6 @@
 mod cert_parts;
 mod cert_texts;
+mod comparisons;
 mod cut_checks;
 mod double_walks;
 mod lifts;

@@ -1,8 +1,10 @@
 ghost use Rattle.std.specs.Prelude.{◌<◌, ◌+◌, ◌^◌, All, IfOk};
 
+use super::comparisons::compare;
 use design_model::{Memory, Numbers};
 use line_graph::Pass;
 use std::alloc::Global;
+use std::process::Abort;
 
 /// Returns the pass of a line, by its number, which is negative for backwards.
 pub fn pass_of(number: i8) -> Pass {
@@ -24,4 +26,12 @@ pub fn members_of(alloc: Global, numbers: &[u8]) -> Result<Numbers, Memory>
         }
     }
     Ok(members)
+}
+
+/// Compares the lines of passes, and whether they are passed backwards, with the given ones.
+pub fn compare_walk(rt: &impl Abort, walk: &[Pass], wanted: &[(u32, bool)]) {
+    compare(rt, walk.len(), wanted.len());
+    for (pass, one) in walk.iter().zip(wanted.iter()) {
+        compare(rt, (pass.line, pass.back), *one);
+    }
 }

@@ -1,11 +1,13 @@
 ghost use Rattle.odd_cuts.specs.Certificates.{HasCanonicalText};
 ghost use Rattle.std.specs.Prelude.{All, IfOk};
 
+use super::cert_parts::compare_walk;
+use super::comparisons::{compare, compare_row};
 use certificate_text::{CertFault, print_cert, read_cert};
 use design_model::{Bytes, MAX_FILE, Memory};
-use line_graph::Pass;
-use odd_cuts::Cert;
+use odd_cuts::{Cert, Cut};
 use std::alloc::Global;
+use std::process::Abort;
 use std::test::Fail;
 use test_values::repeated;
 
@@ -27,29 +29,29 @@ fn bad_line(alloc: Global, text: &[u8]) -> Option<u32> {
     }
 }
 
+/// Texts, by the number of their first bad line, or 0 where there is none.
+const TEXTS: [(&str, u32); 14] = [
+    ("", 1),
+    ("redwork-certificate 1", 1),
+    ("redwork-certificate 1\r\nend\r\n", 1),
+    ("redwork-certificate 01\nend\n", 1),
+    ("redwork-certificate 1 \nend\n", 1),
+    ("end\n", 1),
+    ("\nredwork-certificate 1\nend\n", 1),
+    ("redwork-certificate 1\n", 2),
+    ("redwork-certificate 1\nend", 2),
+    ("redwork-certificate 1\n\nend\n", 2),
+    ("redwork-certificate 1\nend\n", 0),
+    ("redwork-certificate 1\nend\n ", 3),
+    ("redwork-certificate 1\nend\n\n", 3),
+    ("redwork-certificate 1\nend\nend\n", 3),
+];
+
 #[test]
 fn the_first_line_and_the_last_line_have_one_spelling(rt: HostRuntime) {
-    let table = [
-        ("", 1),
-        ("redwork-certificate 1", 1),
-        ("redwork-certificate 1\r\nend\r\n", 1),
-        ("redwork-certificate 01\nend\n", 1),
-        ("redwork-certificate 1 \nend\n", 1),
-        ("end\n", 1),
-        ("\nredwork-certificate 1\nend\n", 1),
-        ("redwork-certificate 1\n", 2),
-        ("redwork-certificate 1\nend", 2),
-        ("redwork-certificate 1\n\nend\n", 2),
-        ("redwork-certificate 1\nend\n", 0),
-        ("redwork-certificate 1\nend\n ", 3),
-        ("redwork-certificate 1\nend\n\n", 3),
-        ("redwork-certificate 1\nend\nend\n", 3),
-    ];
-    for (text, number) in table {
-        assert!(rt;
-            bad_line(rt.alloc(), text.as_bytes()) == Some(number),
-            "{text}"
-        );
+    for (text, number) in &TEXTS {
+        let found = bad_line(rt.alloc(), text.as_bytes());
+        compare_row(&rt, *text, found, Some(*number));
     }
 }
 
@@ -111,21 +113,18 @@ const FOLLOWING: [(u32, &[&str]); 5] = [
     (6, &["piece 0\nwalk 1\ncut 1\npiece 1\nend\n"]),
 ];
 
+/// The number of the first bad line of a text after a first line.
+fn bad_line_after(alloc: Global, rest: &str) -> Result<Option<u32>, Memory> {
+    let text = repeated(alloc, b"redwork-certificate 1\n", rest.as_bytes(), 1, b"")?;
+    Ok(bad_line(alloc, text.as_slice()))
+}
+
 #[test]
 fn the_first_line_that_does_not_fit_is_told(rt: HostRuntime) -> Result<(), Fail> {
-    for (number, texts) in FOLLOWING {
-        for rest in texts {
-            let text = repeated(
-                rt.alloc(),
-                b"redwork-certificate 1\n",
-                rest.as_bytes(),
-                1,
-                b"",
-            )?;
-            assert!(rt;
-                bad_line(rt.alloc(), text.as_slice()) == Some(number),
-                "{rest}"
-            );
+    for (number, texts) in &FOLLOWING {
+        for rest in *texts {
+            let found = bad_line_after(rt.alloc(), rest)?;
+            compare_row(&rt, *rest, found, Some(*number));
         }
     }
     Ok(())
@@ -141,65 +140,29 @@ walk 10
 end
 ";
 
-#[test]
-fn a_certificate_of_two_pieces_is_read_and_printed_again(rt: HostRuntime) -> Result<(), Fail> {
-    let read = cert(rt.alloc(), TWO_PIECES.as_bytes())
-        .ok()
-        .ok_or("two pieces")?;
-    let [first, second] = read.pieces.as_slice() else {
-        return Err("two pieces are told".into());
-    };
-    assert_eq!(rt; first.retraced, 12);
-    assert_eq!(rt; first.walk.len(), 4);
-    assert!(rt;
-        first.walk.as_slice().get(1)
-            == Some(&Pass {
-                line: 1,
-                back: true
-            })
-    );
-    assert!(rt;
-        first.walk.as_slice().get(2)
-            == Some(&Pass {
-                line: 2,
-                back: false
-            })
-    );
-    let [bare, cut] = first.cuts.as_slice() else {
-        return Err("two cuts are told".into());
-    };
-    assert_eq!(rt; bare.weight, 1);
-    assert!(rt; bare.members.is_empty());
-    assert_eq!(rt; cut.weight, 20);
-    assert!(rt; cut.members.as_slice() == [0, 2, 11].as_slice());
-    assert_eq!(rt; second.retraced, 0);
-    assert!(rt;
-        second.walk.as_slice()
-            == [Pass {
-                line: 9,
-                back: false
-            }]
-            .as_slice()
-    );
-    assert!(rt; second.cuts.is_empty());
-    let text = print_cert(rt.alloc(), &read).ok().ok_or("no memory")?;
-    assert!(rt; text.as_slice() == TWO_PIECES.as_bytes());
-    Ok(())
-}
+/// The certificate of a piece: the retraced cost, the passes by line and direction, and the cuts by weight and members.
+type PieceParts = (
+    u32,
+    &'static [(u32, bool)],
+    &'static [(u32, &'static [u32])],
+);
 
-/// The text of three pieces, each with 10,000 passes and 1,000 cuts.
-fn large_text(alloc: Global) -> Result<Bytes, Memory> {
-    let walk = repeated(alloc, b"piece 70\nwalk", b" 4294967295 -10", 5_000, b"\n")?;
-    let cut = b"cut 2 1 20 300 4000 50000 600000 7000000\n";
-    let cuts = repeated(alloc, b"", cut, 1_000, b"")?;
-    let mut text = Bytes::new(alloc);
-    text.append(b"redwork-certificate 1\n")?;
-    for _ in 0..3 {
-        text.append(walk.as_slice())?;
-        text.append(cuts.as_slice())?;
+/// The parts of the two pieces.
+const PARTS: [PieceParts; 2] = [
+    (
+        12,
+        &[(0, false), (1, true), (2, false), (1, true)],
+        &[(1, &[]), (20, &[0, 2, 11])],
+    ),
+    (0, &[(9, false)], &[]),
+];
+
+fn compare_cuts(rt: &impl Abort, cuts: &[Cut], wanted: &[(u32, &[u32])]) {
+    compare(rt, cuts.len(), wanted.len());
+    for (cut, (weight, members)) in cuts.iter().zip(wanted.iter()) {
+        compare(rt, cut.weight, *weight);
+        compare(rt, cut.members.as_slice(), *members);
     }
-    text.append(b"end\n")?;
-    Ok(text)
 }
 
 fn printed_again(alloc: Global, text: &[u8]) -> Result<Bytes, CertFault> {
@@ -208,20 +171,49 @@ fn printed_again(alloc: Global, text: &[u8]) -> Result<Bytes, CertFault> {
     Ok(printed)
 }
 
+/// Compares what is printed of a certificate with the text that it is read from.
+fn compare_printed(rt: &impl Abort, alloc: Global, text: &[u8]) {
+    let printed = printed_again(alloc, text).ok();
+    compare(rt, printed.as_ref().map(Bytes::as_slice), Some(text));
+}
+
+#[test]
+fn a_certificate_of_two_pieces_is_read_and_printed_again(rt: HostRuntime) -> Result<(), Fail> {
+    compare_printed(&rt, rt.alloc(), TWO_PIECES.as_bytes());
+    let read = cert(rt.alloc(), TWO_PIECES.as_bytes());
+    let read = read.ok().ok_or("two pieces")?;
+    compare(&rt, read.pieces.len(), PARTS.len());
+    for (piece, (retraced, walk, cuts)) in read.pieces.as_slice().iter().zip(PARTS.iter()) {
+        compare(&rt, piece.retraced, *retraced);
+        compare_walk(&rt, piece.walk.as_slice(), walk);
+        compare_cuts(&rt, piece.cuts.as_slice(), cuts);
+    }
+    Ok(())
+}
+
+/// Returns the text of three pieces, each with the given number of pairs of passes and of cuts.
+fn large_text(alloc: Global, pairs: u32, cuts: u32) -> Result<Bytes, Memory> {
+    let walk = repeated(alloc, b"piece 70\nwalk", b" 4294967295 -10", pairs, b"\n")?;
+    let cut = b"cut 2 1 20 300 4000 50000 600000 7000000\n";
+    let piece = repeated(alloc, walk.as_slice(), cut, cuts, b"")?;
+    let text = repeated(
+        alloc,
+        b"redwork-certificate 1\n",
+        piece.as_slice(),
+        3,
+        b"end\n",
+    )?;
+    Ok(text)
+}
+
 #[test]
 fn a_large_certificate_is_read_and_printed_again(rt: HostRuntime) -> Result<(), Fail> {
-    let text = large_text(rt.alloc()).ok().ok_or("no memory")?;
-    let read = cert(rt.alloc(), text.as_slice())
-        .ok()
-        .ok_or("a certificate")?;
-    assert_eq!(rt; read.pieces.len(), 3);
-    if let [first, ..] = read.pieces.as_slice() {
-        assert_eq!(rt; first.walk.len(), 10_000);
-        assert_eq!(rt; first.cuts.len(), 1_000);
-    }
-    let printed = printed_again(rt.alloc(), text.as_slice())
-        .ok()
-        .ok_or("a certificate")?;
-    assert!(rt; printed.as_slice() == text.as_slice());
+    let text = large_text(rt.alloc(), 5_000, 1_000)?;
+    compare_printed(&rt, rt.alloc(), text.as_slice());
+    let read = cert(rt.alloc(), text.as_slice());
+    let read = read.ok().ok_or("a certificate")?;
+    compare(&rt, read.pieces.len(), 3);
+    let first = read.pieces.as_slice().first().ok_or("no piece")?;
+    compare(&rt, [first.walk.len(), first.cuts.len()], [10_000, 1_000]);
     Ok(())
 }

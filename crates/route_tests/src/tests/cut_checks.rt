@@ -2,6 +2,7 @@ ghost use Rattle.odd_cuts.specs.CutFaults.{HaveNumberedMembers};
 ghost use Rattle.std.specs.Prelude.{◌+◌, ◌≤◌, IfOk, OnOk, length};
 
 use super::cert_parts::{members_of, pass_of};
+use super::comparisons::compare_row;
 use super::routes::drawing_of;
 use design_model::Memory;
 use line_graph::{Pass, Piece, Pieces, pieces};
@@ -64,63 +65,92 @@ fn told(p: &Piece, passes: [i8; 6], count: usize) -> Result<u64, WalkFault> {
     }
 }
 
-#[test]
-fn the_first_fault_of_a_closed_walk_is_told(rt: HostRuntime) -> Result<(), Fail> {
-    let star = pieces_of(rt.alloc(), STAR, "")?;
-    let p = first_of(&star)?;
-    let cases = [
-        ([1, -1, 3, -3, -6, 6], 6, Ok(12)),
-        ([-6, 6, 3, -3, 1, -1], 6, Ok(12)),
-        ([1, -1, 3, -3, -6, 6], 5, Err(WalkFault::Open)),
-        ([1, -1, 3, -3, -6, 6], 0, Err(WalkFault::Open)),
-        (
-            [1, -1, 3, -3, -6, 6],
-            4,
-            Err(WalkFault::Missing { line: 6 }),
-        ),
-        (
-            [-6, 6, -6, 6, 1, -1],
-            6,
-            Err(WalkFault::Missing { line: 3 }),
-        ),
-        ([1, -1, 3, -3, 6, -6], 6, Err(WalkFault::Broken { pass: 5 })),
-        (
-            [1, -1, 2, -2, -6, 6],
-            6,
-            Err(WalkFault::Stranger { pass: 3 }),
-        ),
-        (
-            [4, -1, 3, -3, -6, 6],
-            6,
-            Err(WalkFault::Stranger { pass: 1 }),
-        ),
-        ([1, 3, 2, -3, -6, 6], 6, Err(WalkFault::Broken { pass: 2 })),
-    ];
-    for (passes, count, says) in cases {
-        assert_eq!(rt; told(p, passes, count), says);
+/// More lines of the star's drawing, passes and how many of them are taken, and the result of the check.
+type WalkRow = (&'static str, [i8; 6], usize, Result<u64, WalkFault>);
+
+const CLOSED: [WalkRow; 10] = [
+    ("", [1, -1, 3, -3, -6, 6], 6, Ok(12)),
+    ("", [-6, 6, 3, -3, 1, -1], 6, Ok(12)),
+    ("", [1, -1, 3, -3, -6, 6], 5, Err(WalkFault::Open)),
+    ("", [1, -1, 3, -3, -6, 6], 0, Err(WalkFault::Open)),
+    (
+        "",
+        [1, -1, 3, -3, -6, 6],
+        4,
+        Err(WalkFault::Missing { line: 6 }),
+    ),
+    (
+        "",
+        [-6, 6, -6, 6, 1, -1],
+        6,
+        Err(WalkFault::Missing { line: 3 }),
+    ),
+    (
+        "",
+        [1, -1, 3, -3, 6, -6],
+        6,
+        Err(WalkFault::Broken { pass: 5 }),
+    ),
+    (
+        "",
+        [1, -1, 2, -2, -6, 6],
+        6,
+        Err(WalkFault::Stranger { pass: 3 }),
+    ),
+    (
+        "",
+        [4, -1, 3, -3, -6, 6],
+        6,
+        Err(WalkFault::Stranger { pass: 1 }),
+    ),
+    (
+        "",
+        [1, 3, 2, -3, -6, 6],
+        6,
+        Err(WalkFault::Broken { pass: 2 }),
+    ),
+];
+
+/// Passes over the star, of which some are a walk from its first line's end.
+const WAY: [i8; 6] = [-1, 3, -3, -6, 6, 1];
+
+/// A start at the end of the first line, and an end at the beginning of the last.
+const BETWEEN: &str = "start 20 0\nend 0 10\n";
+
+const BACK: &str = "start 0 10\nend 20 0\n";
+
+const RETURNING: &str = "end 20 0\n";
+
+const HOME: &str = "start 20 0\nend 0 0\n";
+
+const ENDED: [WalkRow; 7] = [
+    (BETWEEN, WAY, 4, Ok(9)),
+    (BETWEEN, WAY, 3, Err(WalkFault::WrongEnd)),
+    (BACK, WAY, 4, Err(WalkFault::WrongStart)),
+    (RETURNING, WAY, 4, Err(WalkFault::WrongEnd)),
+    (RETURNING, WAY, 6, Ok(12)),
+    (RETURNING, WAY, 0, Err(WalkFault::WrongStart)),
+    (HOME, WAY, 3, Err(WalkFault::Missing { line: 6 })),
+];
+
+/// Compares the result of the check of a walk over the star with the expected one, for each row.
+fn compare_walks(rt: &impl Abort, alloc: Global, rows: &[WalkRow]) -> Result<(), Fail> {
+    for (more, passes, count, wanted) in rows {
+        let star = pieces_of(alloc, STAR, more)?;
+        let found = told(first_of(&star)?, *passes, *count);
+        compare_row(rt, (*more, *passes, *count), found, *wanted);
     }
     Ok(())
 }
 
 #[test]
+fn the_first_fault_of_a_closed_walk_is_told(rt: HostRuntime) -> Result<(), Fail> {
+    compare_walks(&rt, rt.alloc(), &CLOSED)
+}
+
+#[test]
 fn a_walk_is_to_begin_and_to_end_where_that_is_said(rt: HostRuntime) -> Result<(), Fail> {
-    let way = [-1, 3, -3, -6, 6, 1];
-    let between = pieces_of(rt.alloc(), STAR, "start 20 0\nend 0 10\n")?;
-    let between = first_of(&between)?;
-    assert_eq!(rt; told(between, way, 4), Ok(9));
-    assert_eq!(rt; told(between, way, 3), Err(WalkFault::WrongEnd));
-    let back = pieces_of(rt.alloc(), STAR, "start 0 10\nend 20 0\n")?;
-    let back = first_of(&back)?;
-    assert_eq!(rt; told(back, way, 4), Err(WalkFault::WrongStart));
-    let returning = pieces_of(rt.alloc(), STAR, "end 20 0\n")?;
-    let returning = first_of(&returning)?;
-    assert_eq!(rt; told(returning, way, 4), Err(WalkFault::WrongEnd));
-    assert_eq!(rt; told(returning, way, 6), Ok(12));
-    assert_eq!(rt; told(returning, way, 0), Err(WalkFault::WrongStart));
-    let home = pieces_of(rt.alloc(), STAR, "start 20 0\nend 0 0\n")?;
-    let home = first_of(&home)?;
-    assert_eq!(rt; told(home, way, 3), Err(WalkFault::Missing { line: 6 }));
-    Ok(())
+    compare_walks(&rt, rt.alloc(), &ENDED)
 }
 
 /// Returns the result of the check of cuts, each given by its weight and its junctions by number; 0 is none.
@@ -165,109 +195,121 @@ const SECOND: (u32, [u8; 3]) = (4, [2, 0, 0]);
 /// A cut around the third junction.
 const THIRD: (u32, [u8; 3]) = (6, [3, 0, 0]);
 
-/// Compares the result of the check with the expected one, for each table of cuts of the star.
-fn says_each(
+/// A cut around the last junction.
+const LAST: (u32, [u8; 3]) = (2, [4, 0, 0]);
+
+/// Cuts, and the result of their check.
+type CutRow = ([(u32, [u8; 3]); 4], Result<(), CutFault>);
+
+/// A fault of the sum of the weights.
+macro_rules! total {
+    ($sum:expr) => {
+        Err(CutFault::Total {
+            sum: $sum,
+            needed: 12,
+        })
+    };
+}
+
+/// A cut, and the number of odd junctions that it holds.
+macro_rules! even {
+    ($cut:expr, $odd:expr) => {
+        Err(CutFault::EvenCut {
+            cut: $cut,
+            odd: $odd,
+        })
+    };
+}
+
+/// A line, its load, and the load that it may have.
+macro_rules! overload {
+    ($line:expr, $load:expr, $allowed:expr) => {
+        Err(CutFault::Overload {
+            line: $line,
+            load: $load,
+            allowed: $allowed,
+        })
+    };
+}
+
+const TOTALS: [CutRow; 4] = [
+    ([SECOND, THIRD, LAST, NONE], Ok(())),
+    ([(1, [2, 2, 0]), (3, [2, 0, 0]), THIRD, LAST], Ok(())),
+    ([THIRD, SECOND, (1, [4, 0, 0]), NONE], total!(11)),
+    ([NONE, NONE, NONE, NONE], total!(0)),
+];
+
+const FAULTS: [CutRow; 5] = [
+    (
+        [SECOND, (6, [3, 5, 8]), NONE, NONE],
+        Err(CutFault::Stranger {
+            cut: 2,
+            junction: 5,
+        }),
+    ),
+    ([SECOND, (6, [3, 1, 0]), NONE, NONE], even!(2, 2)),
+    ([(4, [2, 2, 4]), (6, [9, 0, 0]), NONE, NONE], even!(1, 2)),
+    ([SECOND, LAST, (1, [1, 2, 3]), NONE], overload!(6, 3, 2)),
+    (
+        [(3, [4, 0, 0]), (9, [3, 0, 0]), NONE, NONE],
+        overload!(3, 9, 6),
+    ),
+];
+
+/// Cuts of the star between a start and an end.
+const OPEN: [CutRow; 2] = [
+    ([THIRD, NONE, NONE, NONE], Ok(())),
+    ([(6, [4, 0, 0]), NONE, NONE, NONE], even!(1, 0)),
+];
+
+/// Cuts around the junctions of the complete drawing.
+const HALVES: [CutRow; 2] = [
+    (
+        [
+            (1, [1, 0, 0]),
+            (1, [2, 0, 0]),
+            (1, [3, 0, 0]),
+            (1, [4, 0, 0]),
+        ],
+        Ok(()),
+    ),
+    (
+        [(2, [1, 0, 0]), (1, [2, 0, 0]), (1, [3, 0, 0]), NONE],
+        overload!(1, 3, 2),
+    ),
+];
+
+/// Compares the result of the check with the expected one, for each table of cuts of a piece that retraces the given
+/// cost.
+fn compare_cuts(
     rt: &impl Abort,
     alloc: Global,
-    cases: &[([(u32, [u8; 3]); 4], Result<(), CutFault>)],
-) -> Result<(), Fail> {
-    let star = pieces_of(alloc, STAR, "")?;
-    let p = first_of(&star)?;
-    for (table, says) in cases {
-        let answer = said(alloc, p, 6, *table)?;
-        assert_eq!(rt; answer, *says);
+    p: &Piece,
+    retraced: u32,
+    rows: &[CutRow],
+) -> Result<(), Memory> {
+    for (table, wanted) in rows {
+        compare_row(rt, *table, said(alloc, p, retraced, *table)?, *wanted);
     }
     Ok(())
 }
 
 #[test]
-fn cuts_are_to_weigh_what_is_needed(rt: HostRuntime) -> Result<(), Fail> {
-    let cases = [
-        ([SECOND, THIRD, (2, [4, 0, 0]), NONE], Ok(())),
-        (
-            [(1, [2, 2, 0]), (3, [2, 0, 0]), THIRD, (2, [4, 0, 0])],
-            Ok(()),
-        ),
-        (
-            [THIRD, SECOND, (1, [4, 0, 0]), NONE],
-            Err(CutFault::Total {
-                sum: 11,
-                needed: 12,
-            }),
-        ),
-        (
-            [NONE, NONE, NONE, NONE],
-            Err(CutFault::Total { sum: 0, needed: 12 }),
-        ),
-    ];
-    says_each(&rt, rt.alloc(), &cases)
-}
-
-#[test]
 fn the_first_fault_of_cuts_is_told(rt: HostRuntime) -> Result<(), Fail> {
-    let cases = [
-        (
-            [SECOND, (6, [3, 5, 8]), NONE, NONE],
-            Err(CutFault::Stranger {
-                cut: 2,
-                junction: 5,
-            }),
-        ),
-        (
-            [SECOND, (6, [3, 1, 0]), NONE, NONE],
-            Err(CutFault::EvenCut { cut: 2, odd: 2 }),
-        ),
-        (
-            [(4, [2, 2, 4]), (6, [9, 0, 0]), NONE, NONE],
-            Err(CutFault::EvenCut { cut: 1, odd: 2 }),
-        ),
-        (
-            [SECOND, (2, [4, 0, 0]), (1, [1, 2, 3]), NONE],
-            Err(CutFault::Overload {
-                line: 6,
-                load: 3,
-                allowed: 2,
-            }),
-        ),
-        (
-            [(3, [4, 0, 0]), (9, [3, 0, 0]), NONE, NONE],
-            Err(CutFault::Overload {
-                line: 3,
-                load: 9,
-                allowed: 6,
-            }),
-        ),
-    ];
-    says_each(&rt, rt.alloc(), &cases)
+    let star = pieces_of(rt.alloc(), STAR, "")?;
+    compare_cuts(&rt, rt.alloc(), first_of(&star)?, 6, &TOTALS)?;
+    compare_cuts(&rt, rt.alloc(), first_of(&star)?, 6, &FAULTS)?;
+    Ok(())
 }
 
 #[test]
 fn start_and_end_are_odd_no_more(rt: HostRuntime) -> Result<(), Fail> {
-    let star = pieces_of(rt.alloc(), STAR, "start 20 0\nend 0 10\n")?;
-    let p = first_of(&star)?;
-    let third = said(rt.alloc(), p, 3, [THIRD, NONE, NONE, NONE]);
-    assert_eq!(rt; third?, Ok(()));
-    let end = said(rt.alloc(), p, 3, [(6, [4, 0, 0]), NONE, NONE, NONE]);
-    assert_eq!(rt; end?, Err(CutFault::EvenCut { cut: 1, odd: 0 }));
-    Ok(())
+    let star = pieces_of(rt.alloc(), STAR, BETWEEN)?;
+    Ok(compare_cuts(&rt, rt.alloc(), first_of(&star)?, 3, &OPEN)?)
 }
 
 #[test]
 fn halves_at_four_junctions_are_a_packing(rt: HostRuntime) -> Result<(), Fail> {
     let complete = pieces_of(rt.alloc(), COMPLETE, "")?;
-    let p = first_of(&complete)?;
-    let others = [(1, [2, 0, 0]), (1, [3, 0, 0])];
-    let overload = CutFault::Overload {
-        line: 1,
-        load: 3,
-        allowed: 2,
-    };
-    for (first, last, says) in [
-        ((1, [1, 0, 0]), (1, [4, 0, 0]), Ok(())),
-        ((2, [1, 0, 0]), NONE, Err(overload)),
-    ] {
-        let cuts = [first, others[0], others[1], last];
-        assert_eq!(rt; said(rt.alloc(), p, 2, cuts)?, says);
-    }
-    Ok(())
+    Ok(compare_cuts(&rt, rt.alloc(), first_of(&complete)?, 2, &HALVES)?)
 }

@@ -1,8 +1,8 @@
-use design_model::Memory;
+use super::comparisons::compare;
 use double_run::double;
 use drawing_tests::points_of;
-use line_graph::{DrawKind, Drawing, DrawingMaker, pieces};
-use std::alloc::Global;
+use line_graph::{DrawKind, Drawing, DrawingMaker, Pass, pieces};
+use std::alloc::{AllocError, Global};
 use std::test::Fail;
 
 /// The points of the lines of a block.
@@ -72,24 +72,28 @@ fn drawn(alloc: Global, blocks: &[Lines]) -> Result<Drawing, DrawKind> {
 }
 
 /// Returns the passes of the double walks over the pieces of a drawing.
-fn passes(alloc: Global, drawing: &Drawing) -> Result<Vec<(u32, bool)>, Memory> {
+fn passes_of(alloc: Global, drawn: Result<Drawing, DrawKind>) -> Result<Vec<(u32, bool)>, Fail> {
+    let drawing = drawn.ok().ok_or("not drawn")?;
+    let pieces = pieces(alloc, &drawing)?;
     let mut told = Vec::new(alloc);
-    let pieces = pieces(alloc, drawing)?;
     for piece in pieces.as_slice() {
-        let walk = double(alloc, piece)?;
-        for pass in walk.as_slice() {
-            told.push((pass.line, pass.back))?;
-        }
+        append_passes(&mut told, double(alloc, piece)?.as_slice())?;
     }
     Ok(told)
 }
 
+fn append_passes(told: &mut Vec<(u32, bool)>, walk: &[Pass]) -> Result<(), AllocError> {
+    for pass in walk {
+        told.push((pass.line, pass.back))?;
+    }
+    Ok(())
+}
+
 #[test]
 fn each_line_is_passed_forwards_and_backwards(rt: HostRuntime) -> Result<(), Fail> {
-    for (blocks, wanted) in TABLE {
-        let drawing = drawn(rt.alloc(), blocks).ok().ok_or("not drawn")?;
-        let told = passes(rt.alloc(), &drawing).ok().ok_or("no memory")?;
-        assert_eq!(rt; told.as_slice(), wanted);
+    for (blocks, wanted) in &TABLE {
+        let told = passes_of(rt.alloc(), drawn(rt.alloc(), blocks))?;
+        compare(&rt, told.as_slice(), *wanted);
     }
     Ok(())
 }
@@ -107,8 +111,7 @@ fn long_row(alloc: Global) -> Result<Drawing, DrawKind> {
 
 #[test]
 fn a_thousand_lines_are_passed(rt: HostRuntime) -> Result<(), Fail> {
-    let drawing = long_row(rt.alloc()).ok().ok_or("not drawn")?;
-    let told = passes(rt.alloc(), &drawing).ok().ok_or("no memory")?;
-    assert_eq!(rt; told.len(), 2_000);
+    let told = passes_of(rt.alloc(), long_row(rt.alloc()))?;
+    compare(&rt, told.len(), 2_000);
     Ok(())
 }

@@ -1,6 +1,7 @@
 ghost use Rattle.route_tests.specs.MoatLoads.{corner_points};
 ghost use Rattle.std.specs.Prelude.{◌≡◌, IfOk};
 
+use super::comparisons::compare_row;
 use crate::have_small_loads;
 use blossom_match::{Moat, Moats};
 use cut_certificate::{Cuts, lift};
@@ -101,40 +102,45 @@ fn told(alloc: Global, cuts: &Cuts) -> Result<Numbers, Memory> {
     Ok(told)
 }
 
+/// Returns what is told of the cuts of moats in a piece.
+fn told_of(alloc: Global, p: &Piece, rings: &[Ring]) -> Result<Numbers, Fail> {
+    let moats = moats_of(alloc, rings)?;
+    let cuts = lifted(alloc, p, &moats)?.ok_or("no moats of the piece")?;
+    Ok(told(alloc, &cuts)?)
+}
+
+/// Moats in the tree, and what is told of their cuts.
+const MOATS: [(&[Ring], &[u32]); 6] = [
+    (&[], &[]),
+    // the next junction is as far as the moat is wide
+    (&[(&[4], 2)], &[1_002, 4]),
+    // two junctions enter at once
+    (&[(&[3], 6)], &[1_004, 3, 1_002, 3, 6, 7]),
+    // a further junction enters, and one is as far as the moat is wide
+    (&[(&[2, 0, 1], 8)], &[1_004, 0, 1, 2, 1_004, 0, 1, 2, 6]),
+    // the width of the moat inside is subtracted
+    (
+        &[(&[0, 1, 2], 5), (&[0], 1), (&[2], 3), (&[1], 1)],
+        &[
+            1_001, 0, 1, 2, 1_004, 0, 1, 2, 6, 1_001, 0, 1_003, 2, 1_001, 1,
+        ],
+    ),
+    // three moats around one terminal, the largest listed between the others
+    (
+        &[(&[0], 1), (&[4, 0, 3, 1, 2], 6), (&[2, 0, 1], 5)],
+        &[
+            1_001, 0, 1_002, 0, 1, 2, 3, 4, 6, 1_004, 0, 1, 2, 3, 4, 6, 7, 1_004, 0, 1, 2, 1_001,
+            0, 1, 2, 6,
+        ],
+    ),
+];
+
 #[test]
 fn moats_become_cuts_of_the_junctions_that_they_reach(rt: HostRuntime) -> Result<(), Fail> {
-    let alloc = rt.alloc();
-    let p = tree(alloc).ok().ok_or("no memory")?;
-    let rows: [(&[Ring], &[u32]); 6] = [
-        (&[], &[]),
-        // the next junction is as far as the moat is wide
-        (&[(&[4], 2)], &[1_002, 4]),
-        // two junctions enter at once
-        (&[(&[3], 6)], &[1_004, 3, 1_002, 3, 6, 7]),
-        // a further junction enters, and one is as far as the moat is wide
-        (&[(&[2, 0, 1], 8)], &[1_004, 0, 1, 2, 1_004, 0, 1, 2, 6]),
-        // the width of the moat inside is subtracted
-        (
-            &[(&[0, 1, 2], 5), (&[0], 1), (&[2], 3), (&[1], 1)],
-            &[
-                1_001, 0, 1, 2, 1_004, 0, 1, 2, 6, 1_001, 0, 1_003, 2, 1_001, 1,
-            ],
-        ),
-        // three moats around one terminal, the largest listed between the others
-        (
-            &[(&[0], 1), (&[4, 0, 3, 1, 2], 6), (&[2, 0, 1], 5)],
-            &[
-                1_001, 0, 1_002, 0, 1, 2, 3, 4, 6, 1_004, 0, 1, 2, 3, 4, 6, 7, 1_004, 0, 1, 2,
-                1_001, 0, 1, 2, 6,
-            ],
-        ),
-    ];
-    for (rings, wanted) in &rows {
-        let moats = moats_of(alloc, rings).ok().ok_or("no memory")?;
-        let cuts = lifted(alloc, &p, &moats).ok().ok_or("no memory")?;
-        let cuts = cuts.ok_or("no moats of the piece")?;
-        let told = told(alloc, &cuts).ok().ok_or("no memory")?;
-        assert_eq!(rt; told.as_slice(), *wanted);
+    let p = tree(rt.alloc())?;
+    for (rings, wanted) in &MOATS {
+        let told = told_of(rt.alloc(), &p, rings)?;
+        compare_row(&rt, *rings, told.as_slice(), *wanted);
     }
     Ok(())
 }

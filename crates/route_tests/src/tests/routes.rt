@@ -1,9 +1,11 @@
+use super::comparisons::compare_row;
 use design_model::{MAX_FILE, counts};
 use drawing_text::read_drawing;
 use line_graph::Drawing;
 use odd_cuts::PieceCert;
 use route_core::route;
 use std::alloc::Global;
+use std::process::Abort;
 use std::test::Fail;
 use test_values::repeated;
 
@@ -53,17 +55,34 @@ fn numbers_of(cert: &PieceCert) -> RoutedPiece {
     (cert.walk.len(), cert.retraced, total)
 }
 
+/// Compares the pieces of a route with the given ones. Each walk begins forwards.
+fn compare_pieces(rt: &impl Abort, lines: &str, pieces: &[PieceCert], wanted: &[RoutedPiece]) {
+    compare_row(rt, lines, pieces.len(), wanted.len());
+    for (cert, one) in pieces.iter().zip(wanted.iter()) {
+        compare_row(rt, lines, numbers_of(cert), *one);
+        let begins = cert.walk.as_slice().first().map(|pass| pass.back);
+        compare_row(rt, lines, begins, Some(false));
+    }
+}
+
+/// Compares the route of a drawing with the given number of needle penetrations and the given pieces.
+fn compare_route(
+    rt: &impl Abort,
+    alloc: Global,
+    lines: &str,
+    penetrations: u32,
+    wanted: &[RoutedPiece],
+) -> Result<(), Fail> {
+    let routed = route(alloc, &drawing_of(alloc, "redwork 1\n", lines)?)?;
+    compare_row(rt, lines, counts(&routed.design).needles, penetrations);
+    compare_pieces(rt, lines, routed.cert.pieces.as_slice(), wanted);
+    Ok(())
+}
+
 #[test]
 fn a_route_has_as_few_penetrations_as_its_cuts_allow(rt: HostRuntime) -> Result<(), Fail> {
-    for (lines, penetrations, wanted) in TABLE {
-        let routed = route(rt.alloc(), &drawing_of(rt.alloc(), "redwork 1\n", lines)?)?;
-        assert_eq!(rt; counts(&routed.design).needles, penetrations, "{lines}");
-        assert_eq!(rt; routed.cert.pieces.len(), wanted.len(), "{lines}");
-        for (cert, one) in routed.cert.pieces.as_slice().iter().zip(wanted) {
-            assert_eq!(rt; numbers_of(cert), *one, "{lines}");
-            let begins = cert.walk.as_slice().first().map(|pass| pass.back);
-            assert_eq!(rt; begins, Some(false), "{lines}");
-        }
+    for (lines, penetrations, wanted) in &TABLE {
+        compare_route(&rt, rt.alloc(), lines, *penetrations, wanted)?;
     }
     Ok(())
 }

@@ -2,11 +2,11 @@ ghost use Rattle.line_graph.specs.PiecesOfDrawings.{graph_of};
 ghost use Rattle.line_graph.specs.ValidPieces.{is_below};
 ghost use Rattle.std.specs.Prelude.{◌≡◌, ◌∷◌, [], pos, true, IfOk};
 
+use super::cert_parts::compare_walk;
 use design_model::{Items, Memory, Point};
 use euler_tour::tour;
-use line_graph::{Edge, Pass, Piece};
+use line_graph::{Edge, Piece};
 use std::alloc::Global;
-use std::process::Abort;
 use std::test::Fail;
 
 fn edge(cost: u32) -> Edge
@@ -42,14 +42,6 @@ fn piece(alloc: Global, start: Option<u32>, end: Option<u32>) -> Result<Piece, M
     })
 }
 
-/// Compares the lines of the passes, and whether they are backwards, with the expected ones.
-fn compare(rt: &impl Abort, walk: &[Pass], wanted: &[(u32, bool)]) {
-    assert_eq!(rt; walk.len(), wanted.len());
-    for (pass, wanted) in walk.iter().zip(wanted.iter()) {
-        assert_eq!(rt; (pass.line, pass.back), *wanted);
-    }
-}
-
 #[test]
 fn a_closed_walk_begins_with_the_first_line_and_passes_it_again(
     rt: HostRuntime,
@@ -57,7 +49,7 @@ fn a_closed_walk_begins_with_the_first_line_and_passes_it_again(
     let p = piece(rt.alloc(), None, None)?;
     let walk = tour(rt.alloc(), &p, &[1, 0, 0])?;
     let wanted = [(0, false), (0, true), (1, false), (2, true)];
-    compare(&rt, walk.as_slice(), &wanted);
+    compare_walk(&rt, walk.as_slice(), &wanted);
     Ok(())
 }
 
@@ -65,6 +57,6 @@ fn a_closed_walk_begins_with_the_first_line_and_passes_it_again(
 fn an_open_walk_leads_from_start_to_end(rt: HostRuntime) -> Result<(), Fail> {
     let p = piece(rt.alloc(), Some(1), Some(0))?;
     let walk = tour(rt.alloc(), &p, &[0, 0, 0])?;
-    compare(&rt, walk.as_slice(), &[(0, true), (1, false), (2, true)]);
+    compare_walk(&rt, walk.as_slice(), &[(0, true), (1, false), (2, true)]);
     Ok(())
 }

@@ -2,7 +2,8 @@ ghost use Rattle.route_verdict.specs.Verdicts.{HasShortLists};
 ghost use Rattle.std.specs.Prelude.{◌≤◌, All, IfOk, length};
 
 use super::cert_parts::{members_of, pass_of};
-use design_model::{Command, Design, Memory, ModelFault, Point};
+use super::comparisons::{compare, compare_row};
+use design_model::{Command, Memory, Point};
 use drawing_tests::points_of;
 use line_graph::{DrawKind, Drawing, DrawingMaker, Walk};
 use odd_cuts::{Cert, Cut, CutFault, Cuts, PieceCert, PieceCerts, WalkFault};
@@ -19,10 +20,6 @@ fn strokes(alloc: Global, ends: &[(i32, i32)]) -> Result<Drawing, DrawKind> {
         maker.add_line(points_of(alloc, &[(*from, 0), (*to, 0)])?)?;
     }
     maker.finish()
-}
-
-fn stitch(x: i32) -> Command {
-    Command::Stitch(Point { x, y: 0 })
 }
 
 /// The certificate of a piece: the retraced cost, two passes by line number (negative for backwards), and
@@ -70,183 +67,214 @@ fn certs_of(alloc: Global, table: &[PieceClaim]) -> Result<PieceCerts, Memory>
     Ok(certs)
 }
 
-fn verdict(
+/// Returns the verdict on commands and the claims of pieces.
+fn verdict_on(
     alloc: Global,
     d: &Drawing,
-    design: &Design,
+    commands: &[Command],
     table: &[PieceClaim],
-) -> Result<Verdict, Memory>
+) -> Result<Verdict, Fail>
     requires { length table.now ≤ 2 }
 {
-    let cert = Cert {
-        pieces: certs_of(alloc, table)?,
+    let design = design_of(alloc, commands)?;
+    let pieces = certs_of(alloc, table)?;
+    Ok(judge(alloc, d, &design, &Cert { pieces })?)
+}
+
+macro_rules! stitch {
+    ($x:expr) => {
+        Command::Stitch(Point { x: $x, y: 0 })
     };
-    judge(alloc, d, design, &cert)
 }
 
-/// Forth and back along a stroke from 0 to 40.
-const SEWN: [i32; 9] = [0, 10, 20, 30, 40, 30, 20, 10, 0];
+/// Stitches forth and back along a stroke from 0 to 40, and a trim.
+const SEWN: [Command; 10] = [
+    stitch!(0),
+    stitch!(10),
+    stitch!(20),
+    stitch!(30),
+    stitch!(40),
+    stitch!(30),
+    stitch!(20),
+    stitch!(10),
+    stitch!(0),
+    Command::Trim,
+];
 
-fn sewn(alloc: Global) -> Result<Design, ModelFault> {
-    let mut design = Design::new(alloc);
-    for x in &SEWN {
-        design.push(stitch(*x))?;
-    }
-    design.push(Command::Trim)?;
-    Ok(design)
+macro_rules! walk {
+    ($piece:expr, $fault:expr) => {
+        Verdict::No(Reason::Walk {
+            piece: $piece,
+            fault: $fault,
+        })
+    };
 }
 
-fn no(reason: Reason) -> Verdict {
-    Verdict::No(reason)
+macro_rules! cuts {
+    ($piece:expr, $fault:expr) => {
+        Verdict::No(Reason::Cuts {
+            piece: $piece,
+            fault: $fault,
+        })
+    };
 }
 
-fn walk(piece: u32, fault: WalkFault) -> Verdict {
-    no(Reason::Walk { piece, fault })
+macro_rules! retraces {
+    ($piece:expr, $said:expr, $found:expr) => {
+        Verdict::No(Reason::Retraced {
+            piece: $piece,
+            said: $said,
+            found: $found,
+        })
+    };
 }
 
-fn cuts(piece: u32, fault: CutFault) -> Verdict {
-    no(Reason::Cuts { piece, fault })
+macro_rules! overloads {
+    ($piece:expr, $line:expr, $load:expr, $allowed:expr) => {
+        cuts!(
+            $piece,
+            CutFault::Overload {
+                line: $line,
+                load: $load,
+                allowed: $allowed,
+            }
+        )
+    };
 }
 
-fn retraces(piece: u32, said: u32, found: u64) -> Verdict {
-    no(Reason::Retraced { piece, said, found })
+macro_rules! acts {
+    ($number:expr) => {
+        Verdict::No(Reason::Acts { number: $number })
+    };
 }
 
-fn overloads(piece: u32, line: u32, load: u64, allowed: u64) -> Verdict {
-    cuts(
-        piece,
-        CutFault::Overload {
-            line,
-            load,
-            allowed,
-        },
-    )
-}
+/// Certificates of the piece of one stroke, and the verdicts on them.
+const CLAIMS: [(PieceClaim, Verdict); 9] = [
+    ((4, [1, -1], 8, [1, 0]), Verdict::Yes),
+    ((4, [1, 0], 8, [1, 0]), walk!(1, WalkFault::Open)),
+    ((3, [1, -1], 8, [1, 0]), retraces!(1, 3, 4)),
+    (
+        (4, [1, -1], 8, [3, 0]),
+        cuts!(
+            1,
+            CutFault::Stranger {
+                cut: 1,
+                junction: 3,
+            }
+        ),
+    ),
+    (
+        (4, [1, -1], 8, [1, 2]),
+        cuts!(1, CutFault::EvenCut { cut: 1, odd: 2 }),
+    ),
+    ((4, [1, -1], 9, [1, 0]), overloads!(1, 1, 9, 8)),
+    (
+        (4, [1, -1], 7, [1, 0]),
+        cuts!(1, CutFault::Total { sum: 7, needed: 8 }),
+    ),
+    (
+        (4, [1, 1], 8, [1, 0]),
+        walk!(1, WalkFault::Broken { pass: 2 }),
+    ),
+    ((4, [-1, 1], 8, [2, 0]), acts!(1)),
+];
 
 #[test]
 fn the_first_thing_that_is_wrong_is_told(rt: HostRuntime) -> Result<(), Fail> {
     let d = strokes(rt.alloc(), &[(0, 40)]).ok().ok_or("no drawing")?;
-    let design = sewn(rt.alloc())?;
-    let cases = [
-        ((4, [1, -1], 8, [1, 0]), Verdict::Yes),
-        ((4, [1, 0], 8, [1, 0]), walk(1, WalkFault::Open)),
-        ((3, [1, -1], 8, [1, 0]), retraces(1, 3, 4)),
-        (
-            (4, [1, -1], 8, [3, 0]),
-            cuts(
-                1,
-                CutFault::Stranger {
-                    cut: 1,
-                    junction: 3,
-                },
-            ),
-        ),
-        (
-            (4, [1, -1], 8, [1, 2]),
-            cuts(1, CutFault::EvenCut { cut: 1, odd: 2 }),
-        ),
-        ((4, [1, -1], 9, [1, 0]), overloads(1, 1, 9, 8)),
-        (
-            (4, [1, -1], 7, [1, 0]),
-            cuts(1, CutFault::Total { sum: 7, needed: 8 }),
-        ),
-        (
-            (4, [1, 1], 8, [1, 0]),
-            walk(1, WalkFault::Broken { pass: 2 }),
-        ),
-        ((4, [-1, 1], 8, [2, 0]), no(Reason::Acts { number: 1 })),
-    ];
-    for (said, says) in cases {
-        let given = verdict(rt.alloc(), &d, &design, &[said])?;
-        assert!(rt; given == says, "{said:?}");
+    for (said, wanted) in &CLAIMS {
+        let found = verdict_on(rt.alloc(), &d, &SEWN, &[*said])?;
+        compare_row(&rt, *said, found == *wanted, true);
     }
-    let none = verdict(rt.alloc(), &d, &design, &[])?;
-    assert!(rt; none == no(Reason::Pieces { found: 0, drawn: 1 }));
+    let none = verdict_on(rt.alloc(), &d, &SEWN, &[])?;
+    let wanted = Verdict::No(Reason::Pieces { found: 0, drawn: 1 });
+    compare(&rt, none == wanted, true);
     Ok(())
 }
+
+/// A jump that leads nowhere.
+const JUMP: Command = Command::Jump(Point { x: 15, y: 0 });
+
+/// Commands that sew one stroke, or don't, and the verdicts on them.
+const SEWINGS: [([Command; 5], Verdict); 6] = [
+    (
+        [stitch!(0), stitch!(10), stitch!(0), Command::Trim, JUMP],
+        Verdict::Yes,
+    ),
+    (
+        [JUMP, stitch!(0), stitch!(10), stitch!(0), Command::Trim],
+        Verdict::Yes,
+    ),
+    (
+        [
+            stitch!(0),
+            stitch!(10),
+            stitch!(0),
+            Command::Trim,
+            Command::Stop,
+        ],
+        acts!(5),
+    ),
+    (
+        [stitch!(0), JUMP, stitch!(10), stitch!(0), Command::Trim],
+        acts!(2),
+    ),
+    ([stitch!(0), stitch!(10), stitch!(0), JUMP, JUMP], acts!(4)),
+    (
+        [stitch!(0), stitch!(9), stitch!(0), Command::Trim, JUMP],
+        acts!(2),
+    ),
+];
 
 #[test]
 fn the_first_act_that_differs_is_told(rt: HostRuntime) -> Result<(), Fail> {
     let d = strokes(rt.alloc(), &[(0, 10)]).ok().ok_or("no drawing")?;
-    let said = (1, [1, -1], 2, [2, 0]);
-    let jump = Command::Jump(Point { x: 15, y: 0 });
-    let cases = [
-        (
-            [stitch(0), stitch(10), stitch(0), Command::Trim, jump],
-            Verdict::Yes,
-        ),
-        (
-            [jump, stitch(0), stitch(10), stitch(0), Command::Trim],
-            Verdict::Yes,
-        ),
-        (
-            [
-                stitch(0),
-                stitch(10),
-                stitch(0),
-                Command::Trim,
-                Command::Stop,
-            ],
-            no(Reason::Acts { number: 5 }),
-        ),
-        (
-            [stitch(0), jump, stitch(10), stitch(0), Command::Trim],
-            no(Reason::Acts { number: 2 }),
-        ),
-        (
-            [stitch(0), stitch(10), stitch(0), jump, jump],
-            no(Reason::Acts { number: 4 }),
-        ),
-        (
-            [stitch(0), stitch(9), stitch(0), Command::Trim, jump],
-            no(Reason::Acts { number: 2 }),
-        ),
-    ];
-    for (commands, says) in cases {
-        let design = design_of(rt.alloc(), &commands)?;
-        let given = verdict(rt.alloc(), &d, &design, &[said])?;
-        assert!(rt; given == says, "{commands:?}");
+    for (commands, wanted) in &SEWINGS {
+        let found = verdict_on(rt.alloc(), &d, commands, &[(1, [1, -1], 2, [2, 0])])?;
+        compare_row(&rt, *commands, found == *wanted, true);
     }
     Ok(())
 }
 
+/// Commands that sew two strokes.
+const BOTH: [Command; 11] = [
+    stitch!(0),
+    stitch!(10),
+    stitch!(0),
+    Command::Trim,
+    Command::Stop,
+    stitch!(70),
+    stitch!(60),
+    stitch!(50),
+    stitch!(60),
+    stitch!(70),
+    Command::Trim,
+];
+
+/// Certificates of the second piece, and the verdicts on them.
+const SECONDS: [(PieceClaim, Verdict); 6] = [
+    ((2, [-2, 2], 4, [1, 0]), Verdict::Yes),
+    (
+        (2, [-1, 1], 4, [1, 0]),
+        walk!(2, WalkFault::Stranger { pass: 1 }),
+    ),
+    ((1, [-2, 2], 2, [1, 0]), retraces!(2, 1, 2)),
+    ((2, [-2, 2], 5, [1, 0]), overloads!(2, 2, 5, 4)),
+    (
+        (2, [-2, 2], 2, [1, 0]),
+        cuts!(2, CutFault::Total { sum: 2, needed: 4 }),
+    ),
+    ((2, [2, -2], 4, [1, 0]), acts!(6)),
+];
+
 #[test]
 fn the_second_piece_is_judged_by_its_own_lines(rt: HostRuntime) -> Result<(), Fail> {
-    let d = strokes(rt.alloc(), &[(0, 10), (50, 70)])
-        .ok()
-        .ok_or("no drawing")?;
-    let commands = [
-        stitch(0),
-        stitch(10),
-        stitch(0),
-        Command::Trim,
-        Command::Stop,
-        stitch(70),
-        stitch(60),
-        stitch(50),
-        stitch(60),
-        stitch(70),
-        Command::Trim,
-    ];
-    let design = design_of(rt.alloc(), &commands)?;
-    let first = (1, [1, -1], 2, [2, 0]);
-    let cases = [
-        ((2, [-2, 2], 4, [1, 0]), Verdict::Yes),
-        (
-            (2, [-1, 1], 4, [1, 0]),
-            walk(2, WalkFault::Stranger { pass: 1 }),
-        ),
-        ((1, [-2, 2], 2, [1, 0]), retraces(2, 1, 2)),
-        ((2, [-2, 2], 5, [1, 0]), overloads(2, 2, 5, 4)),
-        (
-            (2, [-2, 2], 2, [1, 0]),
-            cuts(2, CutFault::Total { sum: 2, needed: 4 }),
-        ),
-        ((2, [2, -2], 4, [1, 0]), no(Reason::Acts { number: 6 })),
-    ];
-    for (second, says) in cases {
-        let given = verdict(rt.alloc(), &d, &design, &[first, second])?;
-        assert!(rt; given == says, "{second:?}");
+    let strokes = strokes(rt.alloc(), &[(0, 10), (50, 70)]);
+    let d = strokes.ok().ok_or("no drawing")?;
+    for (second, wanted) in &SECONDS {
+        let table = [(1, [1, -1], 2, [2, 0]), *second];
+        let found = verdict_on(rt.alloc(), &d, &BOTH, &table)?;
+        compare_row(&rt, *second, found == *wanted, true);
     }
     Ok(())
 }
