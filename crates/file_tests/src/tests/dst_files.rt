@@ -1,14 +1,13 @@
 use super::comparisons::{compare, compare_row};
-use super::feeding::{compare_counts, feed, read_all, written};
+use super::feeding::{compare_counts, feed, filled, read_all, written};
 use super::large_designs::{compare_reread, stops};
 use crate::square;
 use design_model::{Bytes, Command, Memory, Point};
 use dst_codec::{Dst, decode_move, encode_move};
-use format_traits::{Format, Loaded, ReadFault, WriteFault, find};
+use format_traits::{Format, Loaded, ReadFault, WriteFault};
 use std::alloc::Global;
 use std::process::Abort;
 use std::test::Fail;
-use test_values::repeated;
 
 fn read(rt: &impl Abort, alloc: Global, bytes: &[u8]) -> Result<Loaded, ReadFault> {
     read_all(rt, &mut Dst::new(alloc), alloc, bytes)
@@ -33,7 +32,7 @@ const RECORDS: [u8; 27] = [
 fn a_square_has_its_539_bytes(rt: HostRuntime) -> Result<(), Fail> {
     let alloc = rt.alloc();
     let design = square(alloc)?;
-    let expected = repeated(alloc, FIELDS, b" ", 512 - 125, &RECORDS)?;
+    let expected = filled(alloc, FIELDS, b" ", 512 - 125, &RECORDS)?;
     let file = written(&Dst::new(alloc), alloc, &design)?;
     compare(&rt, file.as_slice(), expected.as_slice());
     compare(&rt, file.len(), 539);
@@ -42,7 +41,7 @@ fn a_square_has_its_539_bytes(rt: HostRuntime) -> Result<(), Fail> {
 
 /// Returns a header of spaces, and then records.
 fn file_of(alloc: Global, records: &[u8]) -> Result<Bytes, Memory> {
-    repeated(alloc, b"", b" ", 512, records)
+    filled(alloc, b"", b" ", 512, records)
 }
 
 #[test]
@@ -95,18 +94,28 @@ fn a_file_without_an_end_is_read(rt: HostRuntime) -> Result<(), Fail> {
     Ok(())
 }
 
+/// Compares the refusal of a file with the given one.
+fn compare_fault(
+    rt: &impl Abort,
+    alloc: Global,
+    file: Result<Bytes, Memory>,
+    wanted: ReadFault,
+) -> Result<(), Memory> {
+    let file = file?;
+    let fault = read(rt, alloc, file.as_slice()).err();
+    compare(rt, fault, Some(wanted));
+    Ok(())
+}
+
 #[test]
 fn a_file_is_refused_at_its_first_fault(rt: HostRuntime) -> Result<(), Fail> {
     let alloc = rt.alloc();
-    let far = file_of(alloc, [[0x05, 0x05, 0x07]; 248].as_flattened())?;
-    let fault = read(&rt, alloc, far.as_slice()).err();
-    compare(&rt, fault, Some(ReadFault::Range { at: 1253 }));
-    let short = repeated(alloc, b"", b" ", 511, b"")?;
-    let fault = read(&rt, alloc, short.as_slice()).err();
-    compare(&rt, fault, Some(ReadFault::Short { at: 511 }));
-    let sequin = file_of(alloc, &[0x00, 0x00, 0x43])?;
-    let fault = read(&rt, alloc, sequin.as_slice()).err();
-    compare(&rt, fault, Some(ReadFault::Sequin { at: 512 }));
+    let far = file_of(alloc, [[0x05, 0x05, 0x07]; 248].as_flattened());
+    compare_fault(&rt, alloc, far, ReadFault::Range { at: 1253 })?;
+    let short = filled(alloc, b"", b" ", 511, b"");
+    compare_fault(&rt, alloc, short, ReadFault::Short { at: 511 })?;
+    let sequin = file_of(alloc, &[0x00, 0x00, 0x43]);
+    compare_fault(&rt, alloc, sequin, ReadFault::Sequin { at: 512 })?;
     Ok(())
 }
 
@@ -146,29 +155,6 @@ fn the_greatest_moves_have_their_one_spelling(rt: HostRuntime) {
     compare(&rt, encode_move(-121, 0), [0x0A, 0x0A, 0x0B]);
     compare(&rt, encode_move(0, -121), [0xA0, 0xA0, 0x23]);
     compare(&rt, encode_move(100, 0), [0x09, 0x04, 0x07]);
-}
-
-/// Names of files, and which of two formats with the ending of DST they find.
-const NAMES: [(&str, Option<usize>); 8] = [
-    ("sq.DST", Some(0)),
-    ("a.b.dst", Some(0)),
-    (".dst", Some(0)),
-    ("dst", None),
-    ("a.", None),
-    ("a.jef", None),
-    ("a.dst.b", None),
-    ("", None),
-];
-
-#[test]
-fn a_name_finds_the_format_of_its_last_ending(rt: HostRuntime) -> Result<(), Fail> {
-    let mut formats: Vec<Box<dyn Format>> = Vec::new(rt.alloc());
-    formats.push(Box::new(rt.alloc(), Dst::new(rt.alloc()))?)?;
-    formats.push(Box::new(rt.alloc(), Dst::new(rt.alloc()))?)?;
-    for (name, found) in &NAMES {
-        compare_row(&rt, *name, find(&formats, name), *found);
-    }
-    Ok(())
 }
 
 #[test]

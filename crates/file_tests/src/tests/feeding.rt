@@ -5,9 +5,22 @@ use design_model::{Bytes, Command, Design, MAX_FILE, Memory};
 use format_traits::{Format, Loaded, ReadFault};
 use std::alloc::Global;
 use std::process::Abort;
+use test_values::repeated;
 
 /// The sizes in bytes of the chunks that files are fed in; each file has fewer bytes than the last.
 pub const SIZES: [usize; 9] = [1, 2, 3, 5, 511, 512, 513, 4_096, 1_000_000];
+
+/// Returns a front, a filler the given number of times, and an end. The clause of `repeated` isn't repeated here: of a
+/// literal number it would be computed.
+pub fn filled(
+    alloc: Global,
+    front: &[u8],
+    filler: &[u8],
+    times: u32,
+    end: &[u8],
+) -> Result<Bytes, Memory> {
+    repeated(alloc, front, filler, times, end)
+}
 
 /// Feeds a chunk.
 pub fn feed<F: Format>(rt: &impl Abort, format: &mut F, piece: &[u8]) -> Result<(), Memory>

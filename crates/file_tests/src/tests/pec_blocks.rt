@@ -1,7 +1,7 @@
 ghost use Rattle.std.specs.Prelude.{◌≡◌, IsOk, false};
 
 use super::comparisons::{compare, compare_row};
-use super::feeding::{SIZES, compare_parts};
+use super::feeding::{SIZES, compare_parts, filled};
 use super::large_designs::{compare_large, floating, stops};
 use design_model::{Bytes, Command, MAX_FILE, Memory, Point};
 use format_traits::ReadFault::{self, Range, Short};
@@ -10,7 +10,7 @@ use pec_codec::{BlockReader, read_block, write_block};
 use std::alloc::Global;
 use std::process::Abort;
 use std::test::Fail;
-use test_values::{design_of, repeated};
+use test_values::design_of;
 
 /// A reader of blocks, and the number of bytes fed to it.
 #[derive(Drop)]
@@ -73,13 +73,13 @@ fn at(x: i32, y: i32) -> Command {
 
 /// Returns a block of a blank header and records.
 fn block_of(alloc: Global, records: &[u8]) -> Result<Bytes, Memory> {
-    repeated(alloc, b"", b" ", 528, records)
+    filled(alloc, b"", b" ", 528, records)
 }
 
 /// Returns a file whose block begins at an offset.
 fn file_of(alloc: Global, start: u32, records: &[u8]) -> Result<Bytes, Memory> {
     let block = block_of(alloc, records)?;
-    repeated(alloc, b"", b"\x07", start, block.as_slice())
+    filled(alloc, b"", b"\x07", start, block.as_slice())
 }
 
 #[test]
@@ -166,8 +166,8 @@ fn a_block_is_read_and_refused_wherever_it_begins(rt: HostRuntime) -> Result<(),
     for start in &OFFSETS {
         compare_read(&rt, alloc, *start, &bytes[..3], (&commands[..1], false))?;
         compare_read(&rt, alloc, *start, &bytes, (commands.as_slice(), true))?;
-        let front = repeated(alloc, b"", b"\x07", *start, b"")?;
-        let short = repeated(alloc, front.as_slice(), b" ", 527, b"")?;
+        let front = filled(alloc, b"", b"\x07", *start, b"")?;
+        let short = filled(alloc, front.as_slice(), b" ", 527, b"")?;
         let fault = read(&rt, alloc, short.as_slice(), *start).err();
         let at = *start as u64 + 527;
         compare_row(&rt, *start, fault, Some(Short { at }));

@@ -1,5 +1,5 @@
 use super::comparisons::{compare, compare_row};
-use super::feeding::{feed, read_all, written};
+use super::feeding::{feed, filled, read_all, written};
 use super::large_designs::{compare_large, floating};
 use crate::square;
 use design_model::{Bytes, Command, Design, Memory, ModelFault, Point};
@@ -9,7 +9,6 @@ use pes_codec::{Pec, Pes};
 use std::alloc::Global;
 use std::process::Abort;
 use std::test::Fail;
-use test_values::repeated;
 
 fn read_pec(rt: &impl Abort, alloc: Global, bytes: &[u8]) -> Result<Loaded, ReadFault> {
     read_all(rt, &mut Pec::new(alloc), alloc, bytes)
@@ -109,8 +108,8 @@ fn files_are_refused_by_signature_and_length(rt: HostRuntime) -> Result<(), Fail
 
 /// Returns a file of some bytes of filler, a blank header of its block, and records.
 fn file_of(alloc: Global, front: &[u8], filler: u32, records: &[u8]) -> Result<Bytes, Memory> {
-    let filled = repeated(alloc, front, b"\xFF", filler, b"")?;
-    repeated(alloc, filled.as_slice(), b" ", 528, records)
+    let before = filled(alloc, front, b"\xFF", filler, b"")?;
+    filled(alloc, before.as_slice(), b" ", 528, records)
 }
 
 /// A design that leaves its range by the last of these records.
@@ -157,7 +156,7 @@ fn a_point_out_of_range_leaves_the_commands_before_it(rt: HostRuntime) -> Result
 fn a_block_may_begin_in_the_front_of_its_file(rt: HostRuntime) -> Result<(), Fail> {
     let alloc = rt.alloc();
     let front = b"#PES0001\x00\x00\x00\x00";
-    let file = repeated(alloc, front, b" ", 516, &[0x00, 0x00, 0xFF])?;
+    let file = filled(alloc, front, b" ", 516, &[0x00, 0x00, 0xFF])?;
     let loaded = read_pes(&rt, alloc, file.as_slice())?;
     compare(&rt, loaded.design.commands(), &[at(0, 0)]);
     compare(&rt, loaded.design.threads(), &[32; 33]);
@@ -187,8 +186,8 @@ fn a_large_design_reads_again_at_any_offset(rt: HostRuntime) -> Result<(), Fail>
     let pes = written(&Pes::new(alloc), alloc, &design)?;
     let pec = written(&Pec::new(alloc), alloc, &design)?;
     let block = pec.as_slice().get(8..).ok_or("no block")?;
-    let moved = repeated(alloc, b"#PES0060\x04\x03\x00\x00", b"\xFF", 760, block)?;
-    let other = repeated(alloc, b"#PEC____", b"", 0, block)?;
+    let moved = filled(alloc, b"#PES0060\x04\x03\x00\x00", b"\xFF", 760, block)?;
+    let other = filled(alloc, b"#PEC____", b"", 0, block)?;
     compare_pes(&rt, alloc, pes.as_slice())?;
     compare_pes(&rt, alloc, moved.as_slice())?;
     compare_pec(&rt, alloc, pec.as_slice())?;
