@@ -929,8 +929,9 @@ row("traced drawings", {"a.lst": lst(*SQUARE_ACTS, label="My square"), "b.lst": 
 
 CROSS = ["step 10", "color 1", "line 0 0 10 0 20 0", "line 10 -10 10 0 10 10"]
 CUT_CROSS = ["step 10", "color 1", "line 0 0 10 0", "line 10 0 20 0", "line 10 -10 10 0", "line 10 0 10 10"]
-row("a cross in versions 1 and 2", {"a.rw": rw(1, *CROSS)},
+row("a cross in versions 1 and 2", {"a.rw": rw(1, *CROSS), "g.rw": rw(2, *CROSS)},
     done("stitch migrate a.rw b.rw", "lines 4 pieces 1 cost 4\n", {"b.rw": rw(2, *CUT_CROSS)}),
+    done("stitch migrate g.rw h.rw", "lines 4 pieces 1 cost 4\n", {"h.rw": rw(2, *CUT_CROSS)}),
     done("stitch migrate b.rw c.rw", "lines 4 pieces 1 cost 4\n", {"c.rw": rw(2, *CUT_CROSS)}),
     *[refused(f"stitch_drawing {command}", "a.rw: redwork 1 can't be kept: migrate it first") for command in (
         "snap 2 a.rw e.rw", "cross a.rw e.rw", "space a.rw e.rw", "free a.rw e.rw", "near a.rw e.rw", "edit a.rw e.rw turn=0")],

@@ -7,7 +7,6 @@ use crate::points_of;
 use design_model::{Numbers, Point};
 use line_graph::{DrawKind, Drawing, DrawingMaker, Edge, Edges, Piece, pieces};
 use std::alloc::Global;
-use std::test::Fail;
 
 /// An expected piece: its block, its lines, junctions, edges and degrees.
 type Wanted = (
@@ -168,21 +167,33 @@ fn is_wanted(alloc: Global, piece: &Piece, wanted: &Wanted) -> Result<bool, Draw
     )
 }
 
-#[test]
-fn a_drawing_is_cut_into_pieces_with_their_graphs(rt: HostRuntime) -> Result<(), Fail> {
-    for (index, (parts, wanted)) in TABLE.iter().enumerate() {
-        let d = grown(rt.alloc(), 10, parts).ok().ok_or("a drawing")?;
-        let cut = pieces(rt.alloc(), &d).ok().ok_or("no memory")?;
-        compare_row(&rt, index, cut.len(), wanted.len());
-        for (number, piece) in cut.as_slice().iter().enumerate() {
-            let Some(one) = wanted.get(number) else {
-                continue;
-            };
-            let same = is_wanted(rt.alloc(), piece, one).ok().ok_or("no memory")?;
-            compare_row(&rt, (index, number), same, true);
+/// Returns whether pieces are the expected ones.
+fn are_wanted(alloc: Global, cut: &[Piece], wanted: &[Wanted]) -> Result<bool, DrawKind> {
+    for (piece, one) in cut.iter().zip(wanted) {
+        if !is_wanted(alloc, piece, one)? {
+            return Ok(false);
         }
     }
-    Ok(())
+    Ok(cut.len() == wanted.len())
+}
+
+/// Returns whether the drawing of these parts is cut into the expected pieces.
+fn is_cut(alloc: Global, parts: &[DrawingPart], wanted: &[Wanted]) -> Result<bool, DrawKind> {
+    let d = grown(alloc, 10, parts)?;
+    let cut = pieces(alloc, &d)?;
+    are_wanted(alloc, cut.as_slice(), wanted)
+}
+
+#[test]
+fn a_drawing_is_cut_into_pieces_with_their_graphs(rt: HostRuntime) {
+    for (index, (parts, wanted)) in TABLE.iter().enumerate() {
+        compare_row(
+            &rt,
+            index,
+            is_cut(rt.alloc(), *parts, *wanted).ok(),
+            Some(true),
+        );
+    }
 }
 
 /// One of twenty lines of a step each: five in each of four columns, which are drawn row by row, and
@@ -211,49 +222,46 @@ fn columns(alloc: Global) -> Result<Drawing, DrawKind> {
     maker.finish()
 }
 
-/// Returns whether a piece has the lines of a column: every fourth from the first on.
-fn is_column(alloc: Global, piece: &Piece, block: u32, first: u32) -> Result<bool, DrawKind>
-    requires { first < 60 }
+/// Returns whether a piece has the lines of a column of a block: every fourth from the first on. The last junction is
+/// at their lower end.
+fn is_column(alloc: Global, piece: &Piece, block: u32, column: u32) -> Result<bool, DrawKind>
+    requires block { block < 3 }
+    requires column { column < 4 }
 {
     let ends = [(0, 1, 1), (2, 1, 1), (2, 3, 1), (4, 3, 1), (4, 5, 1)];
     let edges = edges(alloc, ends.as_slice())?;
     let mut lines = Numbers::new(alloc);
     for row in 0..5_u32 {
-        lines.push(first + 4 * row)?;
+        lines.push(20 * block + column + 4 * row)?;
     }
+    let lowest = Point {
+        x: (100 * column) as i32,
+        y: 50,
+    };
     Ok(
         piece.block == block
+            && piece.junctions.as_slice().get(5) == Some(&lowest)
             && piece.lines.as_slice() == lines.as_slice()
             && piece.edges.as_slice() == edges.as_slice()
             && piece.degrees.as_slice() == [1, 2, 2, 2, 2, 1].as_slice(),
     )
 }
 
-#[test]
-fn sixty_lines_in_three_blocks_are_cut_into_twelve_columns(rt: HostRuntime) -> Result<(), Fail> {
-    let d = columns(rt.alloc()).ok().ok_or("a drawing")?;
-    let cut = pieces(rt.alloc(), &d).ok().ok_or("no memory")?;
-    compare(&rt, cut.len(), 12);
-    for (number, piece) in cut.as_slice().iter().enumerate() {
-        if number >= 12 {
-            continue;
+/// Returns the number of the pieces before the first that isn't the column of its number.
+fn columns_cut(alloc: Global) -> Result<u32, DrawKind> {
+    let d = columns(alloc)?;
+    let cut = pieces(alloc, &d)?;
+    let mut number = 0;
+    for piece in cut.as_slice() {
+        if number >= 12 || !is_column(alloc, piece, number / 4, number % 4)? {
+            return Ok(number);
         }
-        let (block, column) = (number as u32 / 4, number as u32 % 4);
-        let first = block * 20 + column;
-        let same = is_column(rt.alloc(), piece, block, first)
-            .ok()
-            .ok_or("no memory")?;
-        compare_row(&rt, number, same, true);
-        let lowest = Point {
-            x: (column * 100) as i32,
-            y: 50,
-        };
-        compare_row(
-            &rt,
-            number,
-            piece.junctions.as_slice().get(5) == Some(&lowest),
-            true,
-        );
+        number += 1;
     }
-    Ok(())
+    Ok(number)
+}
+
+#[test]
+fn sixty_lines_in_three_blocks_are_cut_into_twelve_columns(rt: HostRuntime) {
+    compare(&rt, columns_cut(rt.alloc()).ok(), Some(12));
 }

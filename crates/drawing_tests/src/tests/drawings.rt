@@ -126,21 +126,30 @@ const NEEDLES: [(u32, &[(i32, i32)], usize, (i32, i32)); 3] = [
     (3, &[(0, 0), (-7, 3), (0, 0)], 7, (-3, 1)),
 ];
 
+/// Returns the needles of a line through these places.
+fn needles_through(
+    alloc: Global,
+    step: u32,
+    places: &'static [(i32, i32)],
+) -> Result<Points, DrawKind> {
+    let d = grown(alloc, step, &[Block(255), Line(places)])?;
+    if d.line_count() == 0 {
+        return Err(DrawKind::EmptyBlock);
+    }
+    Ok(needles(alloc, &d, 0)?)
+}
+
 #[test]
-fn the_needles_of_a_line_are_its_points_and_those_between(rt: HostRuntime) -> Result<(), Fail> {
+fn the_needles_of_a_line_are_its_points_and_those_between(rt: HostRuntime) {
     for (step, places, count, (x, y)) in &NEEDLES {
-        let d = grown(rt.alloc(), *step, &[Block(255), Line(*places)])
-            .ok()
-            .ok_or("a drawing")?;
-        if d.line_count() == 0 {
+        let Ok(points) = needles_through(rt.alloc(), *step, *places) else {
+            compare_row(&rt, *step, 0, *count);
             continue;
-        }
-        let points = needles(rt.alloc(), &d, 0).ok().ok_or("no memory")?;
+        };
         compare_row(&rt, *step, points.len(), *count);
         let second = Point { x: *x, y: *y };
         compare_row(&rt, *step, points.as_slice().get(1), Some(&second));
     }
-    Ok(())
 }
 
 /// Adds the given number of lines through the given places, each in a block of its own if `apart` is set.
@@ -189,17 +198,25 @@ const PAIRS: [(u32, Option<DrawKind>); 2] = [
     (32_769, Some(DrawKind::TooManyPoints)),
 ];
 
-#[test]
-fn a_drawing_has_so_many_points(rt: HostRuntime) -> Result<(), Fail> {
-    for (times, wanted) in &PAIRS {
-        let mut maker = DrawingMaker::new(rt.alloc(), b"", 2_047);
-        maker.add_block(1).ok().ok_or("a block")?;
-        let mut line = Points::new(rt.alloc());
-        for _ in 0..*times {
-            let pair = [Point { x: 0, y: 0 }, Point { x: 1, y: 0 }];
-            line.append(pair.as_slice()).ok().ok_or("no memory")?;
-        }
-        compare_row(&rt, *times, maker.add_line(line).err() == *wanted, true);
+/// Adds a line of that many pairs of points.
+fn add_pairs(alloc: Global, times: u32) -> Result<(), DrawKind> {
+    let mut line = Points::new(alloc);
+    for _ in 0..times {
+        line.append(&[Point { x: 0, y: 0 }, Point { x: 1, y: 0 }])?;
     }
-    Ok(())
+    let mut maker = DrawingMaker::new(alloc, b"", 2_047);
+    maker.add_block(1)?;
+    maker.add_line(line)
+}
+
+#[test]
+fn a_drawing_has_so_many_points(rt: HostRuntime) {
+    for (times, wanted) in &PAIRS {
+        compare_row(
+            &rt,
+            *times,
+            add_pairs(rt.alloc(), *times).err() == *wanted,
+            true,
+        );
+    }
 }

@@ -1,16 +1,15 @@
-use super::comparisons::compare;
+use super::comparisons::compare_row;
 use super::sections::{Places, lines};
 use MeetingKind::{BesideSegment, ClosePoints, Crossing, OnSegment, Overlap, Repeat};
-use design_model::Point;
+use design_model::{Memory, Point};
 use line_meetings::{Meeting, MeetingKind, find_meetings};
-use std::test::Fail;
+use std::alloc::Global;
 
-/// The gap, lines, and the meetings that are found: of each its kind, its two lines, and its point.
-type Case = (
-    u16,
-    Places,
-    &'static [(MeetingKind, usize, usize, (i32, i32))],
-);
+/// A meeting: its kind, its two lines, and its point.
+type Wanted = (MeetingKind, usize, usize, (i32, i32));
+
+/// The gap, lines, and the meetings that are found.
+type Case = (u16, Places, &'static [Wanted]);
 
 const CASES: [Case; 9] = [
     // Two lines that share an end.
@@ -79,29 +78,31 @@ const CASES: [Case; 9] = [
     ),
 ];
 
-#[test]
-fn each_meeting_is_found_and_no_other(rt: HostRuntime) -> Result<(), Fail> {
-    for (gap, drawn, meetings) in &CASES {
-        let drawn = lines(rt.alloc(), drawn)?;
-        let found = find_meetings(rt.alloc(), &drawn, *gap)?;
-        compare(&rt, found.len(), meetings.len());
-        for (meeting, (kind, line, other, (x, y))) in found.as_slice().iter().zip(meetings.iter()) {
-            let place = Point { x: *x, y: *y };
-            let wanted = (number_of(*kind), *line, *other, place);
-            compare(&rt, parts(meeting), wanted);
+/// Returns whether the lines meet as a row says.
+fn is_met(alloc: Global, (gap, drawn, wanted): &Case) -> Result<bool, Memory> {
+    let drawn = lines(alloc, *drawn)?;
+    let found = find_meetings(alloc, &drawn, *gap)?;
+    for (meeting, one) in found.as_slice().iter().zip(wanted.iter()) {
+        if !is_wanted(meeting, one) {
+            return Ok(false);
         }
     }
-    Ok(())
+    Ok(found.len() == wanted.len())
 }
 
-/// Returns the number of the kind of a meeting, its two lines and its point.
-fn parts(meeting: &Meeting) -> (u8, usize, usize, Point) {
-    (
-        number_of(meeting.kind),
-        meeting.line,
-        meeting.other,
-        meeting.from,
-    )
+/// Returns whether a meeting has this kind, these two lines and this point.
+fn is_wanted(meeting: &Meeting, (kind, line, other, (x, y)): &Wanted) -> bool {
+    number_of(meeting.kind) == number_of(*kind)
+        && meeting.line == *line
+        && meeting.other == *other
+        && meeting.from == Point { x: *x, y: *y }
+}
+
+#[test]
+fn each_meeting_is_found_and_no_other(rt: HostRuntime) {
+    for (index, case) in CASES.iter().enumerate() {
+        compare_row(&rt, index, is_met(rt.alloc(), case).ok(), Some(true));
+    }
 }
 
 fn number_of(kind: MeetingKind) -> u8 {

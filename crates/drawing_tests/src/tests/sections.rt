@@ -1,9 +1,8 @@
-use super::comparisons::compare;
+use super::comparisons::compare_row;
 use crate::points_of;
 use design_model::Memory;
 use line_sections::{Line, are_whole, sections};
 use std::alloc::Global;
-use std::test::Fail;
 
 /// Lines, each by its block and its places.
 pub type Places = &'static [(u32, &'static [(i32, i32)])];
@@ -90,15 +89,18 @@ fn are_same(some: &[Line], others: &[Line]) -> bool {
     some.len() == others.len()
 }
 
+/// Returns whether the lines are cut as a row says, and are whole after that, and before it if nothing is cut.
+fn are_cut(alloc: Global, case: &Case) -> Result<bool, Memory> {
+    let before = lines(alloc, case.before)?;
+    let after = lines(alloc, case.after)?;
+    let cut = sections(alloc, &before)?;
+    let whole = are_whole(&before) == are_same(&before, &after);
+    Ok(whole && are_whole(&cut) && are_same(&cut, &after))
+}
+
 #[test]
-fn lines_are_cut_where_their_block_lists_a_point_again(rt: HostRuntime) -> Result<(), Fail> {
-    for case in &CASES {
-        let before = lines(rt.alloc(), case.before).ok().ok_or("no memory")?;
-        let after = lines(rt.alloc(), case.after).ok().ok_or("no memory")?;
-        let cut = sections(rt.alloc(), &before).ok().ok_or("no memory")?;
-        compare(&rt, are_same(&cut, &after), true);
-        compare(&rt, are_whole(&cut), true);
-        compare(&rt, are_whole(&before), are_same(&before, &after));
+fn lines_are_cut_where_their_block_lists_a_point_again(rt: HostRuntime) {
+    for (index, case) in CASES.iter().enumerate() {
+        compare_row(&rt, index, are_cut(rt.alloc(), case).ok(), Some(true));
     }
-    Ok(())
 }

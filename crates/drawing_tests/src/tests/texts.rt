@@ -2,8 +2,7 @@ use super::comparisons::{compare, compare_row};
 use super::drawings::compare_squares;
 use design_model::{Bytes, MAX_FILE};
 use drawing_text::{
-    DrawFault, LinesRead, print_drawing, print_drawing2, read_as2, read_drawing, read_lines,
-    read_with_lines,
+    DrawFault, LinesRead, print_drawing, read_drawing, read_lines, read_with_lines,
 };
 use line_graph::DrawKind::{
     self, BadHeader, BadNumber, BadWord, EmptyBlock, FewPoints, NoBlock, OutOfRange, RepeatedPoint,
@@ -75,43 +74,6 @@ fn texts_of_any_spelling_are_read(rt: HostRuntime) -> Result<(), Fail> {
         let plain = printed(rt.alloc(), &d).ok_or("no text")?;
         let wanted = "redwork 1\nname Rose\nstep 25\ncolor 7\nline 0 0 5 5\n";
         compare_row(&rt, *text, plain.as_slice(), wanted.as_bytes());
-    }
-    Ok(())
-}
-
-/// Two lines through one point, after a header.
-const CROSSING: &str = "step 10\ncolor 1\nline 0 0 10 0 20 0\nline 10 -10 10 0 10 10\n";
-
-/// The sections of these two lines, in the canonical text of version 2.
-const CROSSED: &str = "redwork 2
-step 10
-color 1
-line 0 0 10 0
-line 10 0 20 0
-line 10 -10 10 0
-line 10 0 10 10
-";
-
-/// Headers, and the number of the lines that are read after them.
-const HEADERS: [(&str, u32); 2] = [("redwork 1\n", 2), ("redwork 2\n", 4)];
-
-#[test]
-fn lines_of_version_2_meet_at_shared_points(rt: HostRuntime) -> Result<(), Fail> {
-    for (header, lines) in &HEADERS {
-        let text = repeated(rt.alloc(), header.as_bytes(), CROSSING.as_bytes(), 1, b"")
-            .ok()
-            .ok_or("no memory")?;
-        let d = drawing(rt.alloc(), text.as_slice())
-            .ok()
-            .ok_or("a drawing")?;
-        compare(&rt, d.line_count(), *lines);
-        if text.len() as u64 <= MAX_FILE {
-            let whole = read_as2(rt.alloc(), text.as_slice())
-                .ok()
-                .ok_or("a drawing")?;
-            let plain = print_drawing2(rt.alloc(), &whole).ok().ok_or("no memory")?;
-            compare_row(&rt, *header, plain.as_slice(), CROSSED.as_bytes());
-        }
     }
     Ok(())
 }
