@@ -1,9 +1,9 @@
 mod compare_runs;
+mod comparisons;
 mod edit_refusals;
 mod edit_runs;
+mod large_edits;
 mod place_runs;
 mod shop_files;
-mod single_edits;
 mod table_runs;
-mod thumbnail_runs;
 mod usage_runs;

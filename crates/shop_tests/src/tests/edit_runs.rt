@@ -1,115 +1,138 @@
-//! Runs of `edit`, each over `shop.lst`, with what it leaves as `out.lst`.
+//! Runs of `edit`, most over `shop.lst`, with what they leave as `out.lst`.
 use super::table_runs::Run;
 use crate::{faulted, misused, refused};
 
-/// Edits, separated by spaces; the report; and the stitch list after them.
+/// Arguments, separated by spaces; the report; and the stitch list that they leave as `out.lst`.
 pub type Edited = (&'static str, &'static str, &'static str);
 
 pub const EDITS: &[Edited] = &[
     (
-        "tie",
+        "edit shop.lst out.lst tie",
         "needles 32 trims 1 stops 2\n",
         "stitch-list 1\nlabel []\nblock 5\nneedle 0 0\nneedle 7 0\nneedle 0 0\nneedle 7 0\nneedle 0 0\nneedle 30 0\nneedle 60 0\nneedle 53 0\nneedle 60 0\nneedle 53 0\nneedle 60 0\ntrim\nneedle 99 0\nneedle 106 0\nneedle 99 0\nneedle 106 0\nneedle 99 0\nfloat 160 0\nneedle 153 0\nneedle 160 0\nneedle 153 0\nneedle 160 0\nblock 7\nblock 9\nneedle 0 12\nneedle 0 14\nneedle 0 12\nneedle 0 14\nneedle 0 12\nneedle 0 14\nneedle 0 40\nneedle 0 33\nneedle 0 40\nneedle 0 33\nneedle 0 40\nend\n",
     ),
     (
-        "tie=2",
+        "edit shop.lst out.lst tie=2",
         "needles 32 trims 1 stops 2\n",
         "stitch-list 1\nlabel []\nblock 5\nneedle 0 0\nneedle 2 0\nneedle 0 0\nneedle 2 0\nneedle 0 0\nneedle 30 0\nneedle 60 0\nneedle 58 0\nneedle 60 0\nneedle 58 0\nneedle 60 0\ntrim\nneedle 99 0\nneedle 101 0\nneedle 99 0\nneedle 101 0\nneedle 99 0\nfloat 160 0\nneedle 158 0\nneedle 160 0\nneedle 158 0\nneedle 160 0\nblock 7\nblock 9\nneedle 0 12\nneedle 0 14\nneedle 0 12\nneedle 0 14\nneedle 0 12\nneedle 0 14\nneedle 0 40\nneedle 0 38\nneedle 0 40\nneedle 0 38\nneedle 0 40\nend\n",
     ),
     (
-        "tie=20",
+        "edit shop.lst out.lst tie=20",
         "needles 32 trims 1 stops 2\n",
         "stitch-list 1\nlabel []\nblock 5\nneedle 0 0\nneedle 20 0\nneedle 0 0\nneedle 20 0\nneedle 0 0\nneedle 30 0\nneedle 60 0\nneedle 40 0\nneedle 60 0\nneedle 40 0\nneedle 60 0\ntrim\nneedle 99 0\nneedle 119 0\nneedle 99 0\nneedle 119 0\nneedle 99 0\nfloat 160 0\nneedle 140 0\nneedle 160 0\nneedle 140 0\nneedle 160 0\nblock 7\nblock 9\nneedle 0 12\nneedle 0 14\nneedle 0 12\nneedle 0 14\nneedle 0 12\nneedle 0 14\nneedle 0 40\nneedle 0 20\nneedle 0 40\nneedle 0 20\nneedle 0 40\nend\n",
     ),
     (
-        "bare",
+        "edit shop.lst out.lst bare",
         "needles 8 trims 1 stops 2\n",
         "stitch-list 1\nlabel []\nblock 5\nneedle 0 0\nneedle 30 0\nneedle 60 0\ntrim\nneedle 99 0\nfloat 160 0\nblock 7\nblock 9\nneedle 0 12\nneedle 0 14\nneedle 0 40\nend\n",
     ),
     (
-        "tie=12 bare",
+        "edit shop.lst out.lst tie=12 bare",
         "needles 8 trims 1 stops 2\n",
         "stitch-list 1\nlabel []\nblock 5\nneedle 0 0\nneedle 30 0\nneedle 60 0\ntrim\nneedle 99 0\nfloat 160 0\nblock 7\nblock 9\nneedle 0 12\nneedle 0 14\nneedle 0 40\nend\n",
     ),
     (
-        "centre",
+        "edit shop.lst out.lst centre",
         "needles 8 trims 1 stops 2\n",
         "stitch-list 1\nlabel []\nblock 5\nneedle -80 -20\nneedle -50 -20\nneedle -20 -20\ntrim\nneedle 19 -20\nfloat 80 -20\nblock 7\nblock 9\nneedle -80 -8\nneedle -80 -6\nneedle -80 20\nend\n",
     ),
     (
-        "cut=60",
+        "edit shop.lst out.lst cut=60",
         "needles 8 trims 2 stops 2\n",
         "stitch-list 1\nlabel []\nblock 5\nneedle 0 0\nneedle 30 0\nneedle 60 0\ntrim\nneedle 99 0\ntrim\nneedle 160 0\nblock 7\nblock 9\nneedle 0 12\nneedle 0 14\nneedle 0 40\nend\n",
     ),
     (
-        "cut=61",
+        "edit shop.lst out.lst cut=61",
         "needles 8 trims 1 stops 2\n",
         "stitch-list 1\nlabel []\nblock 5\nneedle 0 0\nneedle 30 0\nneedle 60 0\ntrim\nneedle 99 0\nfloat 160 0\nblock 7\nblock 9\nneedle 0 12\nneedle 0 14\nneedle 0 40\nend\n",
     ),
     (
-        "float=39",
+        "edit shop.lst out.lst float=39",
         "needles 8 trims 0 stops 2\n",
         "stitch-list 1\nlabel []\nblock 5\nneedle 0 0\nneedle 30 0\nneedle 60 0\nfloat 99 0\nfloat 160 0\nblock 7\nblock 9\nneedle 0 12\nneedle 0 14\nneedle 0 40\nend\n",
     ),
     (
-        "float=38",
+        "edit shop.lst out.lst float=38",
         "needles 8 trims 1 stops 2\n",
         "stitch-list 1\nlabel []\nblock 5\nneedle 0 0\nneedle 30 0\nneedle 60 0\ntrim\nneedle 99 0\nfloat 160 0\nblock 7\nblock 9\nneedle 0 12\nneedle 0 14\nneedle 0 40\nend\n",
     ),
     (
-        "merge=3",
+        "edit shop.lst out.lst merge=3",
         "needles 7 trims 1 stops 2\n",
         "stitch-list 1\nlabel []\nblock 5\nneedle 0 0\nneedle 30 0\nneedle 60 0\ntrim\nneedle 99 0\nfloat 160 0\nblock 7\nblock 9\nneedle 0 12\nneedle 0 40\nend\n",
     ),
     (
-        "merge=2",
+        "edit shop.lst out.lst merge=2",
         "needles 8 trims 1 stops 2\n",
         "stitch-list 1\nlabel []\nblock 5\nneedle 0 0\nneedle 30 0\nneedle 60 0\ntrim\nneedle 99 0\nfloat 160 0\nblock 7\nblock 9\nneedle 0 12\nneedle 0 14\nneedle 0 40\nend\n",
     ),
     (
-        "bean=1",
+        "edit shop.lst out.lst bean=1",
         "needles 16 trims 1 stops 2\n",
         "stitch-list 1\nlabel []\nblock 5\nneedle 0 0\nneedle 30 0\nneedle 0 0\nneedle 30 0\nneedle 60 0\nneedle 30 0\nneedle 60 0\ntrim\nneedle 99 0\nfloat 160 0\nblock 7\nblock 9\nneedle 0 12\nneedle 0 14\nneedle 0 12\nneedle 0 14\nneedle 0 40\nneedle 0 14\nneedle 0 40\nend\n",
     ),
     (
-        "scale=150",
+        "edit shop.lst out.lst scale=150",
         "needles 8 trims 1 stops 2\n",
         "stitch-list 1\nlabel []\nblock 5\nneedle 0 0\nneedle 45 0\nneedle 90 0\ntrim\nneedle 149 0\nfloat 240 0\nblock 7\nblock 9\nneedle 0 18\nneedle 0 21\nneedle 0 60\nend\n",
     ),
     (
-        "drop-empty",
+        "edit shop.lst out.lst drop-empty",
         "needles 8 trims 1 stops 1\n",
         "stitch-list 1\nlabel []\nblock 5\nneedle 0 0\nneedle 30 0\nneedle 60 0\ntrim\nneedle 99 0\nfloat 160 0\nblock 9\nneedle 0 12\nneedle 0 14\nneedle 0 40\nend\n",
     ),
     (
-        "name=Rose_2",
+        "edit shop.lst out.lst name=Rose_2",
         "needles 8 trims 1 stops 2\n",
         "stitch-list 1\nlabel [Rose_2]\nblock 5\nneedle 0 0\nneedle 30 0\nneedle 60 0\ntrim\nneedle 99 0\nfloat 160 0\nblock 7\nblock 9\nneedle 0 12\nneedle 0 14\nneedle 0 40\nend\n",
     ),
     (
-        "shift=-5,70",
+        "edit shop.lst out.lst shift=-5,70",
         "needles 8 trims 1 stops 2\n",
         "stitch-list 1\nlabel []\nblock 5\nneedle -5 70\nneedle 25 70\nneedle 55 70\ntrim\nneedle 94 70\nfloat 155 70\nblock 7\nblock 9\nneedle -5 82\nneedle -5 84\nneedle -5 110\nend\n",
     ),
     (
-        "turn=1",
+        "edit shop.lst out.lst turn=1",
         "needles 8 trims 1 stops 2\n",
         "stitch-list 1\nlabel []\nblock 5\nneedle 0 0\nneedle 0 30\nneedle 0 60\ntrim\nneedle 0 99\nfloat 0 160\nblock 7\nblock 9\nneedle -12 0\nneedle -14 0\nneedle -40 0\nend\n",
     ),
     (
-        "mirror=x",
+        "edit shop.lst out.lst mirror=x",
         "needles 8 trims 1 stops 2\n",
         "stitch-list 1\nlabel []\nblock 5\nneedle 0 0\nneedle -30 0\nneedle -60 0\ntrim\nneedle -99 0\nfloat -160 0\nblock 7\nblock 9\nneedle 0 12\nneedle 0 14\nneedle 0 40\nend\n",
     ),
     (
-        "thread=3,1",
+        "edit shop.lst out.lst thread=3,1",
         "needles 8 trims 1 stops 2\n",
         "stitch-list 1\nlabel []\nblock 5\nneedle 0 0\nneedle 30 0\nneedle 60 0\ntrim\nneedle 99 0\nfloat 160 0\nblock 7\nblock 1\nneedle 0 12\nneedle 0 14\nneedle 0 40\nend\n",
     ),
     (
-        "cut=60 drop-empty name=Rose",
+        "edit shop.lst out.lst cut=60 drop-empty name=Rose",
         "needles 8 trims 2 stops 1\n",
         "stitch-list 1\nlabel [Rose]\nblock 5\nneedle 0 0\nneedle 30 0\nneedle 60 0\ntrim\nneedle 99 0\ntrim\nneedle 160 0\nblock 9\nneedle 0 12\nneedle 0 14\nneedle 0 40\nend\n",
+    ),
+    // A thread of one stitch is tied to the left.
+    (
+        "edit single.lst out.lst tie",
+        "needles 16 trims 1 stops 0\n",
+        "stitch-list 1\nlabel []\nblock 5\nneedle 0 0\nneedle 7 0\nneedle 0 0\nneedle 7 0\nneedle 0 0\nneedle 30 0\nneedle 60 0\nneedle 53 0\nneedle 60 0\nneedle 53 0\nneedle 60 0\ntrim\nneedle 99 0\nneedle 92 0\nneedle 99 0\nneedle 92 0\nneedle 99 0\nend\n",
+    ),
+    (
+        "edit single.lst out.lst tie bare",
+        "needles 4 trims 1 stops 0\n",
+        "stitch-list 1\nlabel []\nblock 5\nneedle 0 0\nneedle 30 0\nneedle 60 0\ntrim\nneedle 99 0\nend\n",
+    ),
+    // The last needle of a thread stays, and so does one on the other side of a stop.
+    (
+        "edit close.lst out.lst merge=3",
+        "needles 4 trims 0 stops 1\n",
+        "stitch-list 1\nlabel []\nblock 5\nneedle 0 0\nneedle 4 0\nneedle 5 0\nblock 7\nneedle 5 0\nend\n",
+    ),
+    // Blocks that stay keep their threads.
+    (
+        "edit hollow.lst out.lst drop-empty",
+        "needles 2 trims 0 stops 1\n",
+        "stitch-list 1\nlabel []\nblock 9\nneedle 3 0\nblock 4\nneedle 4 0\nend\n",
     ),
 ];
 

@@ -98,6 +98,18 @@ pub const LISTS: &[(&str, &str)] = &[
         "stitch-list 1\nlabel []\nblock 5\nneedle 0 0\nneedle 30 0\nneedle 60 0\ntrim\nneedle 99 0\nfloat 160 0\nblock 7\nblock 9\nneedle 0 12\nneedle 0 14\nneedle 0 40\nend\n",
     ),
     (
+        "single.lst",
+        "stitch-list 1\nlabel []\nblock 5\nneedle 0 0\nneedle 30 0\nneedle 60 0\ntrim\nneedle 99 0\nend\n",
+    ),
+    (
+        "close.lst",
+        "stitch-list 1\nlabel []\nblock 5\nneedle 0 0\nneedle 2 0\nneedle 4 0\nneedle 5 0\nblock 7\nneedle 5 0\nend\n",
+    ),
+    (
+        "hollow.lst",
+        "stitch-list 1\nlabel []\nblock 7\nblock 9\nneedle 3 0\nblock 3\nblock 4\nneedle 4 0\nblock 5\nend\n",
+    ),
+    (
         "far.lst",
         "stitch-list 1\nlabel []\nblock 5\nneedle 29900 0\nneedle 30000 10\nend\n",
     ),

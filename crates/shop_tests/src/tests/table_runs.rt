@@ -1,4 +1,5 @@
 //! Runs of commands of `stitch_design` over files in memory, by tables.
+use super::comparisons::compare_row;
 use super::{compare_runs, edit_runs, place_runs, shop_files, usage_runs};
 use crate::old_files::old_pec;
 use design_commands::run_design;
@@ -46,41 +47,57 @@ macro_rules! faulted {
     };
 }
 
-/// Runs each command over the same files, and compares what it leaves.
-fn play(rt: &impl Abort, alloc: Global, runs: &[Run]) -> Result<(), Fail> {
-    for (words, fails, status, printed, reported) in runs {
-        let mut store = stocked(alloc)?;
-        let mut out = MemSink::new(alloc, 10_000)?;
-        let mut err = MemSink::new(alloc, 2_000)?;
-        store.fail_at(fails[0])?;
-        out.fail_at(fails[1])?;
-        err.fail_at(fails[2])?;
-        let mut given = Vec::new(alloc);
-        if !words.is_empty() {
-            for word in words.split(' ') {
-                given.push(String::from_str(alloc, word)?)?;
-            }
-        }
-        let ended = run_design(alloc, &given, &mut store, &mut out, &mut err)?;
-        assert_eq!(rt; out.taken(), printed.as_bytes(), "{words:?}");
-        let expected = with_usage(alloc, reported, *status)?;
-        assert_eq!(rt; err.taken(), expected.as_bytes(), "{words:?}");
-        assert_eq!(rt; ended as u8, *status, "{words:?}");
-    }
+/// Runs a command over the shop's files, and compares what it prints and its status.
+fn compare_run(rt: &impl Abort, alloc: Global, row: &Run) -> Result<(), Fail> {
+    let (words, fails, status, printed, reported) = *row;
+    let mut store = stocked(alloc)?;
+    store.fail_at(fails[0])?;
+    let mut out = sink(alloc, fails[1])?;
+    let mut err = sink(alloc, fails[2])?;
+    let ended = answer(alloc, words, &mut store, &mut out, &mut err)?;
+    compare_row(rt, words, out.taken(), printed.as_bytes());
+    let told = is_told(err.taken(), reported, status);
+    compare_row(rt, (words, err.taken()), told, true);
+    compare_row(rt, words, ended, status);
     Ok(())
 }
 
-/// Returns what is on standard error: a line, and the usage text where the status says so.
-fn with_usage(alloc: Global, line: &str, status: u8) -> Result<String, Fail> {
-    let mut text = String::from_str(alloc, line)?;
-    if status == 2 {
-        text.push_str(USAGE)?;
+/// Returns a sink with room for each report, in which the put of that number fails.
+fn sink(alloc: Global, fails: u64) -> Result<MemSink, Fail> {
+    let mut sink = MemSink::new(alloc, 10_000)?;
+    sink.fail_at(fails)?;
+    Ok(sink)
+}
+
+/// Returns whether a text is a line, with the usage text after it where the status says so.
+fn is_told(text: &[u8], line: &str, status: u8) -> bool {
+    if status != 2 {
+        return text == line.as_bytes();
     }
-    Ok(text)
+    text.len().checked_sub(line.len()) == Some(USAGE.len())
+        && text.starts_with(line.as_bytes())
+        && text.ends_with(USAGE.as_bytes())
+}
+
+/// Runs the program with the arguments that spaces separate, and returns its exit status.
+fn answer(
+    alloc: Global,
+    words: &str,
+    store: &mut MemStore,
+    out: &mut MemSink,
+    err: &mut MemSink,
+) -> Result<u8, Fail> {
+    let mut given = Vec::new(alloc);
+    if !words.is_empty() {
+        for word in words.split(' ') {
+            given.push(String::from_str(alloc, word)?)?;
+        }
+    }
+    Ok(run_design(alloc, &given, store, out, err)? as u8)
 }
 
 /// Returns a store with the shop's files.
-pub fn stocked(alloc: Global) -> Result<MemStore, Fail> {
+fn stocked(alloc: Global) -> Result<MemStore, Fail> {
     let mut store = MemStore::new(alloc);
     let old = old_pec(alloc, 525)?;
     store.put_file("old.pec", old.as_slice())?;
@@ -93,40 +110,43 @@ pub fn stocked(alloc: Global) -> Result<MemStore, Fail> {
     Ok(store)
 }
 
+const TABLES: [&[Run]; 4] = [
+    place_runs::RUNS,
+    compare_runs::RUNS,
+    edit_runs::RUNS,
+    usage_runs::RUNS,
+];
+
 #[test]
 fn each_run_leaves_what_its_table_says(rt: HostRuntime) -> Result<(), Fail> {
-    let tables = [
-        place_runs::RUNS,
-        compare_runs::RUNS,
-        edit_runs::RUNS,
-        usage_runs::RUNS,
-    ];
-    for runs in tables {
-        play(&rt, rt.alloc(), runs)?;
+    for runs in &TABLES {
+        for row in *runs {
+            compare_run(&rt, rt.alloc(), row)?;
+        }
     }
+    Ok(())
+}
+
+/// Runs an edit, and compares its report and the list that it leaves.
+fn compare_edit(rt: &impl Abort, alloc: Global, row: &edit_runs::Edited) -> Result<(), Fail> {
+    let (words, printed, content) = *row;
+    let mut store = stocked(alloc)?;
+    store.prepare("out.lst", 1_000)?;
+    let mut out = sink(alloc, 0)?;
+    let mut err = sink(alloc, 0)?;
+    let ended = answer(alloc, words, &mut store, &mut out, &mut err)?;
+    compare_row(rt, words, err.taken(), b"");
+    compare_row(rt, words, out.taken(), printed.as_bytes());
+    compare_row(rt, words, ended, 0);
+    let left = store.file("out.lst").unwrap_or(b"");
+    compare_row(rt, words, left, content.as_bytes());
     Ok(())
 }
 
 #[test]
 fn each_edit_leaves_the_list_of_its_table(rt: HostRuntime) -> Result<(), Fail> {
-    for (edits, printed, content) in edit_runs::EDITS {
-        let mut store = stocked(rt.alloc())?;
-        store.prepare("out.lst", 1_000)?;
-        let mut out = MemSink::new(rt.alloc(), 100)?;
-        let mut err = MemSink::new(rt.alloc(), 1_000)?;
-        let mut given = Vec::new(rt.alloc());
-        for word in ["edit", "shop.lst", "out.lst"] {
-            given.push(String::from_str(rt.alloc(), word)?)?;
-        }
-        for word in edits.split(' ') {
-            given.push(String::from_str(rt.alloc(), word)?)?;
-        }
-        let ended = run_design(rt.alloc(), &given, &mut store, &mut out, &mut err)?;
-        assert_eq!(rt; err.taken(), b"".as_slice(), "{edits:?}");
-        assert_eq!(rt; out.taken(), printed.as_bytes(), "{edits:?}");
-        assert_eq!(rt; ended as u8, 0, "{edits:?}");
-        let left = store.file("out.lst").unwrap_or(b"");
-        assert_eq!(rt; left, content.as_bytes(), "{edits:?}");
+    for row in edit_runs::EDITS {
+        compare_edit(&rt, rt.alloc(), row)?;
     }
     Ok(())
 }
