@@ -578,6 +578,7 @@ row("edits of designs", {"a.lst": lst(*SHOP)},
     done("stitch_design edit a.lst c.pes tie", TIED_REPORT, {"c.pes": pes(*TIED)}),
     done("stitch_design edit c.pes d.pec bare", SHOP_REPORT, {"d.pec": pec(*SHOP)}),
     done("stitch_design compare a.lst d.pec --threads", ""),
+    done(["stitch_design", "edit", "a.lst", "f.lst", "name=Rose 2 "], SHOP_REPORT, {"f.lst": lst(*SHOP, label="Rose 2")}),
     done("stitch_design edit a.lst e.exp cut=60 drop-empty", "needles 8 trims 2 stops 1\n", {
         "e.exp": exp(*SHOP[:6], "trim", "needle 160 0", *SHOP[8:])}),
     done("stitch_design edit a.lst e.dst float=39 name=Rose", "needles 8 trims 0 stops 2\n", {
@@ -706,6 +707,38 @@ row("a DST file that was cut off", {"a.dst": HEAD + b"\0", "b.dst": HEAD + b"\0\
 row("an EXP file that was cut off", {"a.exp": bytes.fromhex("0000 0a05 8003")},
     done("stitch show a.exp", text("format exp", "label []", "commands 2", "needles 2", "trims 0", "stops 0",
                                    "extent 0 -5 10 0", "ended no", "block 1 thread 1 needles 2")))
+
+# The first parts of the square's files. Its five stitches have a record each. In DST its trim has three, of which the third is a
+# jump as well, and the last record is the end; in PEC it has four bytes, and a byte 255 is the end. EXP has no end.
+SIGNED = {"pec": 4, "pes": 4}
+SQUARE_STARTS = {"dst": 512, "exp": 0, "pec": 536, "pes": 550}
+SQUARE_COMMANDS = {"dst": [0, 1, 2, 3, 4, 5, 6, 7, 9], "exp": [0, 1, 2, 3, 4, 5, 5, 6],
+                   "pec": [0, 1, 2, 3, 4, 5, 5, 7], "pes": [0, 1, 2, 3, 4, 5, 5, 7]}
+SQUARE_EXTENTS = ["none", "0 0 0 0", "0 0 30 0", "0 0 30 30", "0 0 30 30", "0 0 30 30"]
+
+
+def shown_part(ending, length, whole):
+    """What `show` reports of that many first bytes, as a step."""
+    name, start = f"a{length}.{ending}", SQUARE_STARTS[ending]
+    if length < start:
+        return refused(f"stitch show {name}", f"{name}: byte 0: signature not known" if length < SIGNED.get(ending, 0) else
+                       f"{name}: byte {length}: file too short")
+    size = 3 if ending == "dst" else 2
+    commands = SQUARE_COMMANDS[ending][min((length - start) // size, len(SQUARE_COMMANDS[ending]) - 1)]
+    needles, trimmed = min(commands, 5), commands == SQUARE_COMMANDS[ending][-1]
+    has_end = {"dst": length == whole, "exp": length in (0, 2, 4, 6, 8, 10, 14)}.get(ending, length > start + 14)
+    return done(f"stitch show {name}", text(
+        f"format {ending}", "label []", f"commands {commands}", f"needles {needles}", f"trims {int(trimmed)}", "stops 0",
+        f"extent {SQUARE_EXTENTS[needles]}", f"ended {'yes' if has_end else 'no'}",
+        f"block 1 thread {5 if ending in SIGNED else 1} needles {needles}"))
+
+
+for ending, start in SQUARE_STARTS.items():
+    content = MAKERS[ending](*SQUARE_ACTS)
+    lengths = [length for length in range(len(content) + 1)
+               if length < 9 or start - 3 < length < start + 30 or length > len(content) - 2]
+    row(f"first parts of the square as {ending}", {f"a{length}.{ending}": content[:length] for length in lengths},
+        *[shown_part(ending, length, len(content)) for length in lengths])
 
 TRIMMED = ["block 3", *path(0, 0, 10, 0), "trim", "block 4", *path(200, 0, 210, 7), "block 5", "needle 0 0", "trim"]
 row("a trim before a stop", {"a.lst": lst(*TRIMMED, label="Both")},
