@@ -8,7 +8,7 @@ use Rattle.picture_parts.specs.declared.marks.Mark.{Mark}
 use Rattle.picture_parts.specs.declared.marks.Mark.TheVariants.{Start, End, Stop, Trim, Even, Odd, Loose}
 use Rattle.picture_parts.specs.Marks.{mark_text, shape_at, mark_template}
 use Rattle.picture_parts.specs.Parts.{around, filled}
-use Rattle.picture_parts.specs.Paths.{coloured_path, move_text, path_end, path_start, straight_text}
+use Rattle.picture_parts.specs.Paths.{coloured_path, move_text, path_end, path_start, radii_text, straight_text}
 use Rattle.picture_parts.specs.Sheets.{foot_text, style_text}
 
 -- The mark at a needle.
@@ -68,3 +68,8 @@ known_foot = refl
 pub known_templates : (mark_template Stop ≡ codes "<path class='stop' d='M@m25,-7h4v14h-4zm8,0h4v14h-4z'/>\n")
     × (mark_template Loose ≡ codes "<path fill='none' stroke='#d00' stroke-width='3' d='M@m-15,0a15,15,0,1,0,30,0a15,15,0,1,0,-30,0'/>\n")
 known_templates = (refl, refl)
+
+-- the beginning of an arc of 1.2 mm
+pub known_radii : radii_text 12 ≡ codes "A12,12"
+unfolding digits radii_text
+known_radii = refl

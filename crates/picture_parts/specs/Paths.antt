@@ -1,5 +1,6 @@
 -- Paths: shapes of lines, whose look depends on their class.
-use Rattle.std.specs.Prelude.{ℕ, List, [], ◌∷◌, codes}
+use Rattle.std.specs.Prelude.{ℕ, List, [], ◌∷◌, ◌++◌, codes}
+use Rattle.std.specs.Fmt.{decimal}
 use Rattle.design_model.specs.declared.point.Point.{Point}
 use Rattle.picture_parts.specs.Parts.{around, ended, filled}
 
@@ -18,6 +19,10 @@ move_text p = around (10 ∷ codes "M") p []
 -- A straight line to a point.
 unfoldable pub straight_text : Point → List ℕ
 straight_text p = around (codes "L") p []
+
+-- The beginning of an arc whose two radii are the same.
+unfoldable pub radii_text : ℕ → List ℕ
+radii_text radius = codes "A" ++ (decimal radius ++ (codes "," ++ decimal radius))
 
 -- The end of a path.
 unfoldable pub path_end : List ℕ

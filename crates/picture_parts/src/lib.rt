@@ -13,6 +13,7 @@
 #![tactic(auto)]
 
 mod again_colours;
+mod backwards;
 mod colours;
 mod escapes;
 mod marks;
@@ -28,7 +29,9 @@ pub use colours::thread_colour;
 pub use escapes::put_escaped;
 pub use marks::{Mark, put_mark};
 pub use parts::{Part, put, put_around};
-pub use paths::{put_coloured_path, put_move, put_path_end, put_path_start, put_straight};
+pub use paths::{
+    put_coloured_path, put_move, put_path_end, put_path_start, put_radii, put_straight,
+};
 pub use plain_sheet::{put_plain_foot, put_plain_head, put_plain_title};
 pub use sheet::{Sheet, put_foot, put_head};
 pub use sizes::{PictureSize, put_scale};

@@ -1,9 +1,13 @@
 ghost use Rattle.picture_parts.specs.Parts.{around, filled, mm_text, part_text, point_text, text_after, text_before};
 ghost use Rattle.std.specs.Prelude.{◌≡◌, ◌++◌, OnOk, map};
 
+use crate::backwards::point_before;
 use crate::escapes::put_escaped;
 use design_model::{Bytes, Memory, Point, put_decimal};
 use text_parts::length_before;
+
+/// More bytes than two numbers and a comma need.
+const POINT_ROOM: usize = 48;
 
 /// A part of an SVG text.
 #[derive(Clone, Copy)]
@@ -74,9 +78,9 @@ fn put_part(text: &mut Bytes, part: Part<'_>) -> Result<(), Memory>
 fn put_point(text: &mut Bytes, at: Point) -> Result<(), Memory>
     ensures { OnOk result (text.new ≡ text.old ++ point_text at) }
 {
-    put_decimal(text, at.x)?;
-    text.append(b",")?;
-    put_decimal(text, at.y)?;
+    let mut room = [0; POINT_ROOM];
+    let start = point_before(&mut room, POINT_ROOM, at);
+    text.append(&room[start..])?;
     Ok(())
 }
 

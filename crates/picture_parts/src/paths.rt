@@ -1,8 +1,12 @@
-ghost use Rattle.picture_parts.specs.Paths.{coloured_path, move_text, path_end, path_start, straight_text};
+ghost use Rattle.picture_parts.specs.Paths.{coloured_path, move_text, path_end, path_start, radii_text, straight_text};
 ghost use Rattle.std.specs.Prelude.{◌≡◌, ◌++◌, OnOk};
 
+use crate::backwards::radii_before;
 use crate::parts::{Part, put, put_around};
 use design_model::{Bytes, Memory, Point};
+
+/// More bytes than two radii, a letter and a comma need.
+const RADII_ROOM: usize = 48;
 
 /// Begins the path of a class.
 #[tactic(auto, unfolding(crate::specs::Paths::path_start))]
@@ -38,6 +42,17 @@ pub fn put_straight(text: &mut Bytes, at: Point) -> Result<(), Memory>
     ensures { OnOk result (text.new ≡ text.old ++ straight_text at) }
 {
     put_around(text, b"L", at, b"")
+}
+
+/// Begins an arc whose two radii are the same.
+#[tactic(auto, unfolding(crate::specs::Paths::radii_text))]
+pub fn put_radii(text: &mut Bytes, radius: u64) -> Result<(), Memory>
+    ensures { OnOk result (text.new ≡ text.old ++ radii_text radius) }
+{
+    let mut room = [0; RADII_ROOM];
+    let start = radii_before(&mut room, RADII_ROOM, radius);
+    text.append(&room[start..])?;
+    Ok(())
 }
 
 /// Ends a path.
