@@ -1,3 +1,4 @@
+mod ArcLemmas
 pub mod Names
 mod StrokeLemmas
 mod ShownLemmas

@@ -17,13 +17,15 @@ pub struct SewnStitches {
 }
 
 impl SewnStitches {
-    pub(crate) fn new(alloc: Global) -> SewnStitches
-        ensures { sewn_by result ≡ none_passed }
+    /// Returns that nothing was sewn so far, with room for so many stitches.
+    pub(crate) fn with_room(alloc: Global, stitches: usize) -> Result<SewnStitches, Memory>
+        ensures { IfOk result (λ sewn. sewn_by sewn ≡ none_passed) }
     {
-        SewnStitches {
-            passes: HashMap::new(alloc),
+        let passes = HashMap::with_capacity(alloc, stitches)?;
+        Ok(SewnStitches {
+            passes,
             arrows: HashSet::new(alloc),
-        }
+        })
     }
 
     /// Returns the stitch to a needle, and adds it.

@@ -82,7 +82,7 @@ fn put_along(
     ensures pen { IfOk result (λ pen. pen ≡ pen_along first_pen (acts_along commands.now)) }
     ensures counted { IfOk result (HasCounted MAX_COMMANDS) }
 {
-    let mut sewn = SewnStitches::new(alloc);
+    let mut sewn = SewnStitches::with_room(alloc, commands.len())?;
     let mut pen = Pen::new();
     let mut scanner = ActScanner::new();
     for command in commands {

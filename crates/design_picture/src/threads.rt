@@ -4,8 +4,8 @@ ghost use Rattle.std.specs.Prelude.{◌≡◌, ◌++◌, OnOk};
 use crate::strokes::{PieceStart, SewnStitch, Stroke};
 use design_model::{Bytes, Memory, Point, square_between};
 use picture_parts::{
-    Part, again_colour, put, put_around, put_coloured_path, put_move, put_path_end, put_straight,
-    thread_colour,
+    Part, again_colour, put, put_around, put_coloured_path, put_move, put_path_end, put_radii,
+    put_straight, thread_colour,
 };
 
 /// The shortest stitch whose needle hole is shown, in tenths of a millimetre on its longer axis.
@@ -35,26 +35,26 @@ pub(crate) fn put_sewn(text: &mut Bytes, stitch: SewnStitch) -> Result<(), Memor
     }
 }
 
-#[tactic(auto, unfolding(crate::specs::Threads::arc_text))]
-fn put_arc(text: &mut Bytes, bow: u128, at: Point) -> Result<(), Memory>
+fn put_arc(text: &mut Bytes, bow: u64, at: Point) -> Result<(), Memory>
     ensures { OnOk result (text.new ≡ text.old ++ arc_text bow at) }
 {
-    let bow = Part::Number(bow);
-    put(text, b"A@,@,0,0,1,@", &[bow, bow, Part::At(at)])
+    put_radii(text, bow)?;
+    put_around(text, b",0,0,1,", at, b"")?;
+    Ok(())
 }
 
 /// Returns the radius of the arc for a stitch that was sewn before. It differs from pass to pass.
-fn bow(stitch: SewnStitch) -> u128
+fn bow(stitch: SewnStitch) -> u64
     ensures { result ≡ bow_of stitch }
 {
     let square = square_between(stitch.from, stitch.at);
     if stitch.pass == 1 {
-        return square / 32 + 2;
+        return (square / 32) as u64 + 2;
     }
     if stitch.pass == 2 {
-        return square / 64 + 4;
+        return (square / 64) as u64 + 4;
     }
-    square / 96 + 6
+    (square / 96) as u64 + 6
 }
 
 /// Ends the thread of a block, and begins the next.
