@@ -1,4 +1,5 @@
 mod ArcLemmas
+mod PassLemmas
 pub mod Names
 mod StrokeLemmas
 mod ShownLemmas

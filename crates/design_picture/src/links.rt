@@ -1,6 +1,6 @@
-ghost use Rattle.design_picture.specs.Passes.{earlier_passes, is_same_stitch, passes_of, passes_with, turned_stitch};
+ghost use Rattle.design_picture.specs.Passes.{earlier_passes, is_same_stitch, passes_counted, passes_with, turned_stitch};
 ghost use Rattle.std.specs.HashMap.{get};
-ghost use Rattle.std.specs.Prelude.{◌≡◌, ◌≤◌, IfOk, OnOk};
+ghost use Rattle.std.specs.Prelude.{◌≡◌, ◌≤◌, IfOk, IsTrue, OnOk, Some};
 
 use design_model::{Memory, Point};
 use std::collections::HashMap;
@@ -21,19 +21,37 @@ pub(crate) fn pass(passes: &mut HashMap<PointPair, u32>, stitch: PointPair) -> R
     ensures kept { OnOk result (get is_same_stitch passes.new
         ≡ passes_with (get is_same_stitch passes.old) stitch) }
 {
-    let along = passes_in(passes, stitch);
-    let against = passes_in(passes, turned(stitch));
-    count(passes, stitch, along)?;
+    let kept = kept_passes(passes, stitch);
+    let along = counted(kept);
+    let against = counted(kept_passes(passes, turned(stitch)));
+    count(passes, stitch, kept)?;
     Ok(along + against)
 }
 
-fn count(passes: &mut HashMap<PointPair, u32>, stitch: PointPair, along: u32) -> Result<(), Memory>
-    requires { along ≡ passes_of (get is_same_stitch passes.old) stitch }
+/// Counts a stitch by what is kept of it. Nothing changes where no more passes are distinguished.
+fn count(
+    passes: &mut HashMap<PointPair, u32>,
+    stitch: PointPair,
+    kept: Option<u32>,
+) -> Result<(), Memory>
+    requires { kept ≡ get is_same_stitch passes.old stitch }
     ensures { OnOk result (get is_same_stitch passes.new
         ≡ passes_with (get is_same_stitch passes.old) stitch) }
 {
-    passes.insert(stitch, (along + 1).min(MAX_PASSES))?;
+    if is_full(kept) {
+        return Ok(());
+    }
+    passes.insert(stitch, (counted(kept) + 1).min(MAX_PASSES))?;
     Ok(())
+}
+
+fn is_full(kept: Option<u32>) -> bool
+    ensures { IsTrue result → kept ≡ Some MAX_PASSES }
+{
+    match kept {
+        Some(passes) => passes == MAX_PASSES,
+        None => false,
+    }
 }
 
 fn turned(stitch: PointPair) -> PointPair
@@ -45,12 +63,18 @@ fn turned(stitch: PointPair) -> PointPair
     }
 }
 
-fn passes_in(passes: &HashMap<PointPair, u32>, stitch: PointPair) -> u32
-    ensures value { result ≡ passes_of (get is_same_stitch passes.now) stitch }
+fn kept_passes(passes: &HashMap<PointPair, u32>, stitch: PointPair) -> Option<u32>
+    ensures { result ≡ get is_same_stitch passes.now stitch }
+{
+    passes.get(&stitch).copied()
+}
+
+fn counted(kept: Option<u32>) -> u32
+    ensures value { result ≡ passes_counted kept }
     ensures most { result ≤ MAX_PASSES }
 {
-    match passes.get(&stitch) {
-        Some(passes) => (*passes).min(MAX_PASSES),
+    match kept {
+        Some(passes) => passes.min(MAX_PASSES),
         None => 0,
     }
 }
