@@ -3,7 +3,6 @@ use Rattle.std.proofs.Common.{◌≡◌, ℕ, pos, true, false, List, [], ◌∷
 use Rattle.drawing_review.specs.declared.grid_point.GridPoint.{GridPoint}
 use Rattle.line_meetings.specs.declared.bounds.Bounds.{Bounds}
 use Rattle.line_meetings.specs.declared.outline.Outline.{Outline}
-use Rattle.line_meetings.specs.declared.query.Query.{Query}
 use Rattle.line_meetings.specs.declared.query.Query.TheVariants as query
 use Rattle.line_meetings.specs.declared.span.Span.{Span}
 use Rattle.line_meetings.specs.declared.strip.Direction.{Direction}
@@ -83,9 +82,3 @@ pub known_left_out : (is_left_out (query.Around 3 near) (bounds_around 3 near.a)
     × (is_left_out (query.Touching beside) (bounds_of beside) outline ≡ true)
     × (is_left_out (query.Touching near) (bounds_of near) outline ≡ false)
 known_left_out = (refl, refl, refl, refl, refl, refl)
-
--- bounds that are apart leave out each question
-pub known_apart : map (λ q. is_left_out q (bounds_around 1 (point 50 50)) outline)
-    (query.Around 1 near ∷ query.Close 1 near ∷ query.Beside 1 near ∷ query.Touching near ∷ [])
-    ≡ true ∷ true ∷ true ∷ true ∷ []
-known_apart = refl

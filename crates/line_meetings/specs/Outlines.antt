@@ -1,12 +1,12 @@
 -- Outlines of parts: what is known of all of them, so that a question passes over those that it
 -- isn't about.
-use Rattle.std.specs.Prelude.{Bool, ◌||◌, List}
+use Rattle.std.specs.Prelude.{Bool, false, List}
 use Rattle.line_meetings.specs.declared.bounds.Bounds.{Bounds}
 use Rattle.line_meetings.specs.declared.indexed_part.IndexedPart.{IndexedPart}
 use Rattle.line_meetings.specs.declared.outline.Outline.{Outline}
 use Rattle.line_meetings.specs.declared.query.Query.{Query}
 use Rattle.line_meetings.specs.declared.query.Query.TheVariants as query
-use Rattle.line_meetings.specs.Bounds.{AreAllWithin, are_bounds_apart}
+use Rattle.line_meetings.specs.Bounds.{AreAllWithin}
 use Rattle.line_meetings.specs.Cores.{HaveCore, is_core_out}
 use Rattle.line_meetings.specs.Strips.{LieInStrip, is_beside_strip}
 
@@ -16,13 +16,11 @@ pub record HaveOutline (outline : Outline) (parts : List IndexedPart) : Type 0 w
   pub core : HaveCore outline.core parts
   pub strip : LieInStrip outline.strip parts
 
--- A question with these bounds is about no part that has an outline: their bounds are apart; or it
--- is about segments inside its bounds, and the core reaches out of them; or it is about segments
--- that touch one, which lies beside the strip.
+-- A question with these bounds is about no part that has an outline, though their bounds aren't
+-- apart: it is about segments inside its bounds, and the core reaches out of them; or it is about
+-- segments that touch one, which lies beside the strip.
 abbrev pub is_left_out : Query → Bounds → Outline → Bool
-is_left_out (query.Close gap point) bounds outline = are_bounds_apart bounds outline.bounds
-is_left_out (query.Around gap point) bounds outline =
-    are_bounds_apart bounds outline.bounds || is_core_out outline.core bounds
-is_left_out (query.Beside gap point) bounds outline = are_bounds_apart bounds outline.bounds
-is_left_out (query.Touching s) bounds outline =
-    are_bounds_apart bounds outline.bounds || is_beside_strip outline.strip s
+is_left_out (query.Close gap point) bounds outline = false
+is_left_out (query.Around gap point) bounds outline = is_core_out outline.core bounds
+is_left_out (query.Beside gap point) bounds outline = false
+is_left_out (query.Touching s) bounds outline = is_beside_strip outline.strip s

@@ -64,6 +64,9 @@ impl Area {
         ensures { OnOk result (found.new.items
             ≡ found.old.items ++ matching_indexes query.now self.now) }
     {
+        if bounds.is_apart(&self.outline().bounds) {
+            return Ok(());
+        }
         if query.leaves_out(bounds, self.outline()) {
             return Ok(());
         }

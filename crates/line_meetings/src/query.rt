@@ -58,17 +58,16 @@ impl Query {
         }
     }
 
-    /// Returns whether the question is about no part that has an outline. The bounds are those of the question.
+    /// Returns whether the question is about no part that has an outline, where their bounds aren't apart. The bounds are
+    /// those of the question.
     pub fn leaves_out(&self, bounds: &Bounds, outline: &Outline) -> bool
         ensures { result ≡ is_left_out self.now bounds.now outline.now }
     {
         match self {
-            Query::Close { .. } => bounds.is_apart(&outline.bounds),
-            Query::Around { .. } => {
-                bounds.is_apart(&outline.bounds) || outline.core.is_out(bounds)
-            }
-            Query::Beside { .. } => bounds.is_apart(&outline.bounds),
-            Query::Touching(s) => bounds.is_apart(&outline.bounds) || outline.strip.is_beside(s),
+            Query::Close { .. } => false,
+            Query::Around { .. } => outline.core.is_out(bounds),
+            Query::Beside { .. } => false,
+            Query::Touching(s) => outline.strip.is_beside(s),
         }
     }
 
