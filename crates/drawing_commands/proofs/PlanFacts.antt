@@ -45,8 +45,10 @@ known_faults why next = (refl, refl)
 
 -- Each of these commands reads the text of its input, and goes on if no line would be cut.
 pub known_texts : (limits : SpacingLimits) (text : TextRead)
-    → (meet_plan (snap_order 2 true (codes "a") (codes "b")) ≡ text_plan (codes "a") (meet_kept (snap_order 2 true (codes "a") (codes "b"))))
-    × (space_plan (space_order limits (codes "a") (codes "b")) ≡ text_plan (codes "a") (space_kept (space_order limits (codes "a") (codes "b"))))
+    → (meet_plan (snap_order 2 true (codes "a") (codes "b")) ≡ text_plan (codes "a")
+    (meet_kept (snap_order 2 true (codes "a") (codes "b"))))
+    × (space_plan (space_order limits (codes "a") (codes "b")) ≡ text_plan (codes "a")
+    (space_kept (space_order limits (codes "a") (codes "b"))))
     × (free_plan (free_order (codes "a") (codes "b")) ≡ text_plan (codes "a") (free_kept (free_order (codes "a") (codes "b"))))
     × (near_plan (near_file_order (codes "a") (codes "b")) ≡ text_plan (codes "a") (near_kept (near_file_order (codes "a") (codes "b"))))
     × (drawing_edit_plan (drawing_edit_order (codes "a") (codes "b") [])

@@ -242,7 +242,8 @@ fn edit_request<'a>(command: &'a str, words: &'a [String]) -> Requested<'a>
 fn edits_request<'a>(names: FileNames<'a>, edits: &'a [String]) -> Requested<'a>
     requires names { AreFileNames names }
     requires some { 1 ≤ length edits.now }
-    ensures said { edits_parsed names.entry.input.now names.entry.output.now (map (λ word. string_bytes word) edits.now)
+    ensures said { edits_parsed names.entry.input.now names.entry.output.now
+        (map (λ word. string_bytes word) edits.now)
         ≡ result_map_both order_of_request mistaken_word result }
     ensures sound { IfOk result HasFileNames }
 {
@@ -258,7 +259,8 @@ fn edits_request<'a>(names: FileNames<'a>, edits: &'a [String]) -> Requested<'a>
 /// Returns a request after which no argument is left.
 fn alone<'a>(requested: DrawingRequest<'a>, words: &'a [String]) -> Requested<'a>
     requires { HasFileNames requested }
-    ensures said { nothing_after (order_of_request requested.entry) (map (λ word. string_bytes word) words.now)
+    ensures said { nothing_after (order_of_request requested.entry)
+        (map (λ word. string_bytes word) words.now)
         ≡ result_map_both order_of_request mistaken_word result }
     ensures sound { IfOk result HasFileNames }
 {

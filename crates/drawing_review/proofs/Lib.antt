@@ -1,3 +1,4 @@
 mod JoinedFacts
 mod JointLemmas
 mod SegmentFacts
+mod StripFacts

@@ -18,9 +18,11 @@ mod joined_points;
 mod joints;
 mod segment;
 mod sides;
+mod strip;
 
 pub use grid_point::{GridPoint, counted_from_least};
 pub use joined_points::JoinedPoints;
 pub use joints::points_joined;
 pub use segment::{LineSegment, Position, segment_at};
-pub use sides::comes_near;
+pub use sides::{clockwise, comes_near, counter, times};
+pub use strip::{Direction, Strip};

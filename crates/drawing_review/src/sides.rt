@@ -6,21 +6,25 @@ use crate::grid_point::GridPoint;
 use crate::segment::LineSegment;
 
 /// Returns the product of two coordinates.
-fn times(m: u16, n: u16) -> u64
+pub fn times(m: u16, n: u16) -> u64
     ensures value { result ≡ m * n }
     ensures most { result ≤ 4294836225 }
 {
     m as u64 * n as u64
 }
 
-fn clockwise(s: &LineSegment, p: GridPoint) -> u64
-    ensures { result ≡ clockwise_sum s.now p }
+/// Returns the positive products in the cross product of a segment and the move from its end `a` to a point.
+pub fn clockwise(s: &LineSegment, p: GridPoint) -> u64
+    ensures value { result ≡ clockwise_sum s.now p }
+    ensures most { result ≤ 12884508675 }
 {
     times(s.b.x, p.y) + (times(s.b.y, s.a.x) + times(s.a.y, p.x))
 }
 
-fn counter(s: &LineSegment, p: GridPoint) -> u64
-    ensures { result ≡ counter_sum s.now p }
+/// Returns the negative products in the cross product of a segment and the move from its end `a` to a point.
+pub fn counter(s: &LineSegment, p: GridPoint) -> u64
+    ensures value { result ≡ counter_sum s.now p }
+    ensures most { result ≤ 12884508675 }
 {
     times(s.b.x, s.a.y) + (times(s.a.x, p.y) + times(s.b.y, p.x))
 }

@@ -10,8 +10,8 @@ mod JointLemmas
 mod KnownFacts
 mod KnownLemmas
 mod MeetingFacts
+mod OutlineFacts
 mod OutlineLemmas
-mod StripFacts
 mod StripLemmas
 mod StripLists
 mod TellingLemmas

@@ -10,7 +10,8 @@ use Rattle.line_meetings.specs.Bounds.{bounds_around}
 use Rattle.line_meetings.specs.Cores.{HasCore, HaveCore, core_of, is_core_out}
 use Rattle.line_meetings.specs.Outlines.{HaveOutline, is_left_out}
 use Rattle.line_meetings.specs.Queries.{is_earlier}
-use Rattle.line_meetings.specs.Strips.{LiesInStrip, LieInStrip, is_beside_strip}
+use Rattle.drawing_review.specs.Strips.{is_beside_strip}
+use Rattle.line_meetings.specs.Outlines.{LiesInStrip, LieInStrip}
 use Rattle.line_meetings.specs.Touches.{do_overlap}
 use Rattle.line_meetings.proofs.BoundsLemmas.{unmatched}
 use Rattle.line_meetings.proofs.CoreLemmas.{none_around}

@@ -5,10 +5,11 @@ use Rattle.std.proofs.Math.Nat.{mul-le-mul_left, lt_of_mul-lt-mul_left}
 use Rattle.design_model.proofs.ListLemmas.{first_true, second_true}
 use Rattle.drawing_review.specs.declared.grid_point.GridPoint.{GridPoint}
 use Rattle.drawing_review.specs.Meetings.{clockwise_sum, counter_sum, cross_inside, lies_between}
-use Rattle.line_meetings.specs.declared.strip.Direction.{Direction}
-use Rattle.line_meetings.specs.declared.strip.Strip.{Strip}
+use Rattle.drawing_review.specs.declared.strip.Direction.{Direction}
+use Rattle.drawing_review.specs.declared.strip.Strip.{Strip}
 use Rattle.line_meetings.specs.Parts.{rank_of}
-use Rattle.line_meetings.specs.Strips.{LiesInStrip, is_beside_strip, is_right_of, left_sum, right_sum}
+use Rattle.drawing_review.specs.Strips.{is_beside_strip, is_right_of, left_sum, right_sum}
+use Rattle.line_meetings.specs.Outlines.{LiesInStrip}
 use Rattle.line_meetings.specs.Touches.{do_overlap, is_along, shared_end, shared_start}
 use Rattle.line_meetings.proofs.Names.{LineSegment, ltb-true, nat_tests}
 
@@ -71,19 +72,25 @@ none_shared u v m n s t k l i j are same some before = by_test (nat_lt i k) refl
     by_test true is = let less = ltb-true i k is in shorter (k - i) (omega (arith, less)) (omega (arith, less, same))
     by_test false is = let more : k ≤ i = grind (arith, nat_tests, is) in longer (i - k) (omega (arith, more)) (omega (arith, more, same))
 
+-- equal numbers by a factor
+by : {m n : ℕ} (factor : ℕ) → m ≡ n → m * factor ≡ n * factor
+by factor is = ap (λ (z : ℕ). z * factor) is
+
 -- the point at which segments cross, by the weights of their ends
-weighted_one_way : (s t : LineSegment) (k l i j : ℕ) → k + clockwise_sum t s.b ≡ counter_sum t s.b → l + counter_sum t s.a ≡ clockwise_sum t s.a
+weighted_one_way : (s t : LineSegment) (k l i j : ℕ) → k + clockwise_sum t s.b ≡ counter_sum t s.b → l + counter_sum t s.a
+    ≡ clockwise_sum t s.a
     → i + counter_sum s t.b ≡ clockwise_sum s t.b → j + clockwise_sum s t.a ≡ counter_sum s t.a → AreWeighted k l i j s.a s.b t.a t.b
 weighted_one_way s t k l i j is_k is_l is_i is_j = record {
-  x = omega (arith, ap (λ (z : ℕ). z * s.a.x) is_k, ap (λ (z : ℕ). z * s.b.x) is_l, ap (λ (z : ℕ). z * t.a.x) is_i, ap (λ (z : ℕ). z * t.b.x) is_j);
-  y = omega (arith, ap (λ (z : ℕ). z * s.a.y) is_k, ap (λ (z : ℕ). z * s.b.y) is_l, ap (λ (z : ℕ). z * t.a.y) is_i, ap (λ (z : ℕ). z * t.b.y) is_j);
+  x = omega (arith, by s.a.x is_k, by s.b.x is_l, by t.a.x is_i, by t.b.x is_j);
+  y = omega (arith, by s.a.y is_k, by s.b.y is_l, by t.a.y is_i, by t.b.y is_j);
 }
 
-weighted_other_way : (s t : LineSegment) (k l i j : ℕ) → k + counter_sum t s.b ≡ clockwise_sum t s.b → l + clockwise_sum t s.a ≡ counter_sum t s.a
+weighted_other_way : (s t : LineSegment) (k l i j : ℕ) → k + counter_sum t s.b ≡ clockwise_sum t s.b → l + clockwise_sum t s.a
+    ≡ counter_sum t s.a
     → i + clockwise_sum s t.b ≡ counter_sum s t.b → j + counter_sum s t.a ≡ clockwise_sum s t.a → AreWeighted k l i j s.a s.b t.a t.b
 weighted_other_way s t k l i j is_k is_l is_i is_j = record {
-  x = omega (arith, ap (λ (z : ℕ). z * s.a.x) is_k, ap (λ (z : ℕ). z * s.b.x) is_l, ap (λ (z : ℕ). z * t.a.x) is_i, ap (λ (z : ℕ). z * t.b.x) is_j);
-  y = omega (arith, ap (λ (z : ℕ). z * s.a.y) is_k, ap (λ (z : ℕ). z * s.b.y) is_l, ap (λ (z : ℕ). z * t.a.y) is_i, ap (λ (z : ℕ). z * t.b.y) is_j);
+  x = omega (arith, by s.a.x is_k, by s.b.x is_l, by t.a.x is_i, by t.b.x is_j);
+  y = omega (arith, by s.a.y is_k, by s.b.y is_l, by t.a.y is_i, by t.b.y is_j);
 }
 
 both_true : (a b : Bool) → (a && b) ≡ true → (a ≡ true) × (b ≡ true)
@@ -113,7 +120,8 @@ crossed_apart u v m n s t of_s of_t before =
         let l = clockwise_sum t s.a - counter_sum t s.a in
         let i = clockwise_sum s t.b - counter_sum s t.b in
         let j = counter_sum s t.a - clockwise_sum s t.a in
-        none_shared u v m n s t k l i j (weighted_one_way s t k l i j (omega (arith, d)) (omega (arith, c)) (omega (arith, b)) (omega (arith, a)))
+        none_shared u v m n s t k l i j (weighted_one_way s t k l i j (omega (arith, d)) (omega (arith, c)) (omega (arith, b))
+        (omega (arith, a)))
         (omega (arith, a, b, c, d)) (omega (arith, d)) before
 
     other_way : counter_sum s t.a < clockwise_sum s t.a → clockwise_sum s t.b < counter_sum s t.b
@@ -123,22 +131,23 @@ crossed_apart u v m n s t of_s of_t before =
         let l = counter_sum t s.a - clockwise_sum t s.a in
         let i = counter_sum s t.b - clockwise_sum s t.b in
         let j = clockwise_sum s t.a - counter_sum s t.a in
-        none_shared u v m n s t k l i j (weighted_other_way s t k l i j (omega (arith, d)) (omega (arith, c)) (omega (arith, b)) (omega (arith, a)))
+        none_shared u v m n s t k l i j (weighted_other_way s t k l i j (omega (arith, d)) (omega (arith, c)) (omega (arith, b))
+        (omega (arith, a)))
         (omega (arith, a, b, c, d)) (omega (arith, d)) before
 
 -- points on the line through a segment, by how far along it their ranks are
 along_x : (s : LineSegment) (p : GridPoint) (whole part : ℕ) → clockwise_sum s p ≡ counter_sum s p → whole + rank_of s.a ≡ rank_of s.b
     → part + rank_of s.a ≡ rank_of p → AreWeighted whole part whole part p s.a s.a s.b
 along_x s p whole part on is_whole is_part = record {
-  x = omega (arith, on, ap (λ (z : ℕ). z * p.x) is_whole, ap (λ (z : ℕ). z * s.a.x) is_whole, ap (λ (z : ℕ). z * s.a.x) is_part, ap (λ (z : ℕ). z * s.b.x) is_part);
-  y = omega (arith, on, ap (λ (z : ℕ). z * p.y) is_whole, ap (λ (z : ℕ). z * s.a.y) is_whole, ap (λ (z : ℕ). z * s.a.y) is_part, ap (λ (z : ℕ). z * s.b.y) is_part);
+  x = omega (arith, on, by p.x is_whole, by s.a.x is_whole, by s.a.x is_part, by s.b.x is_part);
+  y = omega (arith, on, by p.y is_whole, by s.a.y is_whole, by s.a.y is_part, by s.b.y is_part);
 }
 
 back_along : (s : LineSegment) (p : GridPoint) (whole part : ℕ) → clockwise_sum s p ≡ counter_sum s p → whole + rank_of s.a ≡ rank_of s.b
     → part + rank_of p ≡ rank_of s.b → AreWeighted whole part whole part s.b s.a p s.b
 back_along s p whole part on is_whole is_part = record {
-  x = omega (arith, on, ap (λ (z : ℕ). z * p.x) is_whole, ap (λ (z : ℕ). z * s.b.x) is_whole, ap (λ (z : ℕ). z * s.a.x) is_part, ap (λ (z : ℕ). z * s.b.x) is_part);
-  y = omega (arith, on, ap (λ (z : ℕ). z * p.y) is_whole, ap (λ (z : ℕ). z * s.b.y) is_whole, ap (λ (z : ℕ). z * s.a.y) is_part, ap (λ (z : ℕ). z * s.b.y) is_part);
+  x = omega (arith, on, by p.x is_whole, by s.b.x is_whole, by s.a.x is_part, by s.b.x is_part);
+  y = omega (arith, on, by p.y is_whole, by s.b.y is_whole, by s.a.y is_part, by s.b.y is_part);
 }
 
 -- the ranks of where what two segments share begins and ends
@@ -237,7 +246,8 @@ beside_apart strip s t lies beside = by_test (is_right_of strip.along s.a strip.
       ba = behind strip.right s.a t.b both.0 lies.right_b;
       bb = behind strip.right s.b t.b both.1 lies.right_b;
     })
-    by_test false not = let both = both_true _ _ (sym (ap (λ (b : Bool). b || (is_right_of d strip.left s.a && is_right_of d strip.left s.b)) not) ∙ beside) in
+    by_test false not = let both = both_true _ _ (sym (ap (λ (b : Bool). b
+        || (is_right_of d strip.left s.a && is_right_of d strip.left s.b)) not) ∙ beside) in
         none_touches d.from.x d.to.y d.to.x d.from.y s t (record {
           aa = ahead strip.left s.a t.a both.0 lies.left_a;
           ab = ahead strip.left s.b t.a both.1 lies.left_a;

@@ -1,9 +1,10 @@
 -- Strips that widen until all parts lie in them.
 use Rattle.std.proofs.Common.{◌≡◌, ◌+◌, ◌*◌, Bool, true, false, nat_lt, List, [], ◌∷◌, if◌then◌else◌, arith, refl, sym, subst, ap, ◌∙◌}
 use Rattle.drawing_review.specs.declared.grid_point.GridPoint.{GridPoint}
-use Rattle.line_meetings.specs.declared.strip.Direction.{Direction}
-use Rattle.line_meetings.specs.declared.strip.Strip.{Strip}
-use Rattle.line_meetings.specs.Strips.{LiesInStrip, LieInStrip, is_right_of, strip_with}
+use Rattle.drawing_review.specs.declared.strip.Direction.{Direction}
+use Rattle.drawing_review.specs.declared.strip.Strip.{Strip}
+use Rattle.drawing_review.specs.Strips.{is_right_of, strip_with}
+use Rattle.line_meetings.specs.Outlines.{LiesInStrip, LieInStrip}
 use Rattle.line_meetings.proofs.Names.{IndexedPart, nat_tests}
 
 -- a strip has all that lies in another
@@ -55,13 +56,16 @@ wider_still g f e outer inner = record {
   along = outer.along ∙ inner.along;
   right = no_further e.along e.right f.right g.right inner.right
       (subst (λ (d : Direction). is_right_of d f.right g.right ≡ false) inner.along outer.right);
-  left = no_further e.along g.left f.left e.left (subst (λ (d : Direction). is_right_of d g.left f.left ≡ false) inner.along outer.left) inner.left;
+  left = no_further e.along g.left f.left e.left (subst (λ (d : Direction). is_right_of d g.left f.left
+      ≡ false) inner.along outer.left) inner.left;
 }
 
 has_still : (g f : Strip) (p : GridPoint) → IsWider g f → HasPoint f p → HasPoint g p
 has_still g f p wider has = record {
-  right = subst (λ (d : Direction). is_right_of d p g.right ≡ false) (sym wider.along) (no_further f.along p f.right g.right has.right wider.right);
-  left = subst (λ (d : Direction). is_right_of d g.left p ≡ false) (sym wider.along) (no_further f.along g.left f.left p wider.left has.left);
+  right = subst (λ (d : Direction). is_right_of d p g.right ≡ false) (sym wider.along)
+      (no_further f.along p f.right g.right has.right wider.right);
+  left = subst (λ (d : Direction). is_right_of d g.left p ≡ false) (sym wider.along)
+      (no_further f.along g.left f.left p wider.left has.left);
 }
 
 -- In what is as wide as the strip with the next part, that part lies, and those before it.

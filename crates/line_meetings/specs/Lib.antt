@@ -11,6 +11,5 @@ pub mod Meetings
 pub mod IndexedParts
 pub mod Cores
 pub mod Outlines
-pub mod Strips
 pub mod KnownPoints
 pub mod Sorting

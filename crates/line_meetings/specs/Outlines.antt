@@ -1,6 +1,9 @@
 -- Outlines of parts: what is known of all of them, so that a question passes over those that it
 -- isn't about.
-use Rattle.std.specs.Prelude.{Bool, false, List}
+use Rattle.std.specs.Prelude.{◌≡◌, Bool, false, List, [], ◌∷◌}
+use Rattle.drawing_review.specs.declared.segment.LineSegment.{LineSegment}
+use Rattle.drawing_review.specs.declared.strip.Strip.{Strip}
+use Rattle.drawing_review.specs.Strips.{is_beside_strip, is_right_of}
 use Rattle.line_meetings.specs.declared.bounds.Bounds.{Bounds}
 use Rattle.line_meetings.specs.declared.indexed_part.IndexedPart.{IndexedPart}
 use Rattle.line_meetings.specs.declared.outline.Outline.{Outline}
@@ -8,7 +11,18 @@ use Rattle.line_meetings.specs.declared.query.Query.{Query}
 use Rattle.line_meetings.specs.declared.query.Query.TheVariants as query
 use Rattle.line_meetings.specs.Bounds.{AreAllWithin}
 use Rattle.line_meetings.specs.Cores.{HaveCore, is_core_out}
-use Rattle.line_meetings.specs.Strips.{LieInStrip, is_beside_strip}
+
+-- Both ends of a segment lie in a strip.
+pub record LiesInStrip (strip : Strip) (t : LineSegment) : Type 0 where
+  pub right_a : is_right_of strip.along t.a strip.right ≡ false
+  pub right_b : is_right_of strip.along t.b strip.right ≡ false
+  pub left_a : is_right_of strip.along strip.left t.a ≡ false
+  pub left_b : is_right_of strip.along strip.left t.b ≡ false
+
+-- All given parts lie in a strip.
+abbrev pub LieInStrip : Strip → List IndexedPart → Type 0
+LieInStrip strip [] = Unit {0}
+LieInStrip strip (p ∷ rest) = LiesInStrip strip p.part × LieInStrip strip rest
 
 -- Parts have an outline: they lie within its bounds and in its strip, and each has its core inside.
 pub record HaveOutline (outline : Outline) (parts : List IndexedPart) : Type 0 where

@@ -30,7 +30,6 @@ mod parts;
 mod query;
 mod region;
 mod span;
-mod strip;
 mod touches;
 
 pub use finding::find_meetings;

@@ -1,12 +1,11 @@
 ghost use Rattle.line_meetings.specs.Bounds.{AreAllWithin};
 ghost use Rattle.line_meetings.specs.Cores.{HaveCore};
-ghost use Rattle.line_meetings.specs.Outlines.{HaveOutline};
-ghost use Rattle.line_meetings.specs.Strips.{LieInStrip};
+ghost use Rattle.line_meetings.specs.Outlines.{HaveOutline, LieInStrip};
 
 use crate::bounds::Bounds;
 use crate::indexed_part::IndexedPart;
 use crate::part_core::Core;
-use crate::strip::Strip;
+use drawing_review::Strip;
 
 /// What is known of several parts: bounds that have them inside, a core that each of them has inside, and a strip along
 /// the first one in which they lie.

@@ -1,32 +1,10 @@
-ghost use Rattle.drawing_review.specs.Meetings.{clockwise_sum, counter_sum, cross_inside, lies_between};
+ghost use Rattle.drawing_review.specs.Meetings.{cross_inside, lies_between};
 ghost use Rattle.line_meetings.specs.Touches.{are_close, crossing_of, distance_of, do_overlap, drawn_point, is_along, is_beside, least_near, length_along, lies_on_side, mean_coordinate, mean_point, nearest_on, shared_end, shared_start, side_of, squared_length};
 ghost use Rattle.std.specs.Prelude.{◌≡◌, ◌*◌, ◌+◌, ◌≤◌, ◌||◌};
 
 use crate::parts::rank;
 use design_model::Point;
-use drawing_review::{GridPoint, LineSegment, comes_near};
-
-/// Returns the product of two coordinates.
-pub(crate) fn times(m: u16, n: u16) -> u64
-    ensures value { result ≡ m * n }
-    ensures most { result ≤ 4294836225 }
-{
-    m as u64 * n as u64
-}
-
-fn clockwise(s: &LineSegment, p: GridPoint) -> u64
-    ensures value { result ≡ clockwise_sum s.now p }
-    ensures most { result ≤ 12884508675 }
-{
-    times(s.b.x, p.y) + (times(s.b.y, s.a.x) + times(s.a.y, p.x))
-}
-
-fn counter(s: &LineSegment, p: GridPoint) -> u64
-    ensures value { result ≡ counter_sum s.now p }
-    ensures most { result ≤ 12884508675 }
-{
-    times(s.b.x, s.a.y) + (times(s.a.x, p.y) + times(s.b.y, p.x))
-}
+use drawing_review::{GridPoint, LineSegment, clockwise, comes_near, counter, times};
 
 /// Returns the size of the cross product of a segment and the move from its end `a` to a point.
 fn side(s: &LineSegment, p: GridPoint) -> u64

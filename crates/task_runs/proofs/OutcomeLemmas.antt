@@ -21,11 +21,11 @@ pub run_reply : (Ends : RunClause) (task : TaskValue) (s : Status) (store : Task
     (out err : GrowingSinkValue) → ListsFiles names (files_now store)
     → Ends task.words (views_before task.files) (views_of (task_store_view store) (growing_view out) (growing_view err)) s
     → IsRunReply Ends task (record {
-  outcome = exit_number s;
-  out = out.bytes;
-  err = err.bytes;
-  files = changed_files task.files (files_now store) names;
-})
+      outcome = exit_number s;
+      out = out.bytes;
+      err = err.bytes;
+      files = changed_files task.files (files_now store) names;
+    })
 run_reply Ends task s store names out err listed ends = record {
   status = s;
   after = views_of (task_store_view store) (growing_view out) (growing_view err);

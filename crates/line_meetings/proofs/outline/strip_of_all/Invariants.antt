@@ -1,6 +1,6 @@
 use Rattle.std.proofs.Common.{drop}
-use Rattle.line_meetings.specs.declared.strip.Strip.{Strip}
-use Rattle.line_meetings.specs.Strips.{LieInStrip}
+use Rattle.drawing_review.specs.declared.strip.Strip.{Strip}
+use Rattle.line_meetings.specs.Outlines.{LieInStrip}
 use Rattle.line_meetings.proofs.StripLists.{IsWider}
 use Rattle.line_meetings.proofs.outline.strip_of_all.Given as goal
 

@@ -1,17 +1,17 @@
--- Worked strips, and what the records on strips and outlines state.
-use Rattle.std.proofs.Common.{◌≡◌, ℕ, pos, true, false, List, [], ◌∷◌, map, refl}
+-- Worked outlines, and what the records on outlines and strips state.
+use Rattle.std.proofs.Common.{◌≡◌, ℕ, pos, true, false, List, [], ◌∷◌, refl}
 use Rattle.drawing_review.specs.declared.grid_point.GridPoint.{GridPoint}
 use Rattle.line_meetings.specs.declared.bounds.Bounds.{Bounds}
 use Rattle.line_meetings.specs.declared.outline.Outline.{Outline}
 use Rattle.line_meetings.specs.declared.query.Query.TheVariants as query
 use Rattle.line_meetings.specs.declared.span.Span.{Span}
-use Rattle.line_meetings.specs.declared.strip.Direction.{Direction}
-use Rattle.line_meetings.specs.declared.strip.Strip.{Strip}
+use Rattle.drawing_review.specs.declared.strip.Direction.{Direction}
+use Rattle.drawing_review.specs.declared.strip.Strip.{Strip}
 use Rattle.line_meetings.specs.Bounds.{bounds_around}
 use Rattle.line_meetings.specs.Cores.{HaveCore}
-use Rattle.line_meetings.specs.Outlines.{HaveOutline, is_left_out}
 use Rattle.line_meetings.specs.Parts.{segment_part}
-use Rattle.line_meetings.specs.Strips.{LieInStrip, LiesInStrip, is_beside_strip, is_right_of, left_sum, right_sum, strip_with}
+use Rattle.drawing_review.specs.Strips.{is_right_of}
+use Rattle.line_meetings.specs.Outlines.{HaveOutline, LieInStrip, LiesInStrip, is_left_out}
 use Rattle.line_meetings.proofs.Names.{AreAllWithin, IndexedPart, LineSegment, bounds_of}
 
 abbrev point : ℕ → ℕ → GridPoint
@@ -21,36 +21,16 @@ point x y = record { x = x; y = y }
 abbrev d : Direction
 d = record { from = point 10 20; to = point 14 23 }
 
-pub known_sums : (right_sum d (point 5 7) ≡ 198) × (left_sum d (point 5 7) ≡ 185)
-known_sums = (refl, refl)
-
--- y grows downwards: what is below lies to the right, and points on one line along the direction aren't right of each other
-pub known_right : (is_right_of d (point 10 21) (point 10 20) ≡ true) × (is_right_of d (point 10 20) (point 10 21) ≡ false)
-    × (is_right_of d (point 14 23) (point 10 20) ≡ false) × (is_right_of d (point 10 20) (point 14 23) ≡ false)
-known_right = (refl, refl, refl, refl)
-
 abbrev strip : Strip
 strip = record { along = d; right = point 10 22; left = point 10 19 }
-
--- a point to the right, one to the left, and one between
-pub known_with : (strip_with strip (point 10 23) ≡ record { along = d; right = point 10 23; left = point 10 19 })
-    × (strip_with strip (point 10 18) ≡ record { along = d; right = point 10 22; left = point 10 18 })
-    × (strip_with strip (point 14 23) ≡ strip)
-known_with = (refl, refl, refl)
 
 abbrev from_to : GridPoint → GridPoint → LineSegment
 from_to p q = record (segment_part (record { block = 2; line = 0; number = 0; is_first = false; is_last = false })
     (record { x = pos 0; y = pos 0 }) (record { x = pos 0; y = pos 0 })) { a = p; b = q }
 
--- both ends to the right, both to the left, one on each side, one on the rim
-pub known_beside : map (is_beside_strip strip) (from_to (point 10 23) (point 10 24) ∷ from_to (point 10 18) (point 10 17)
-    ∷ from_to (point 10 23) (point 10 18) ∷ from_to (point 10 22) (point 10 23) ∷ from_to (point 10 23) (point 10 22)
-    ∷ from_to (point 10 19) (point 10 18) ∷ from_to (point 10 18) (point 10 19) ∷ [])
-    ≡ true ∷ true ∷ false ∷ false ∷ false ∷ false ∷ false ∷ []
-known_beside = refl
-
 -- each end lies between the sides
-pub known_lies : (t : LineSegment) → LiesInStrip strip t → (is_right_of d t.a (point 10 22) ≡ false) × (is_right_of d t.b (point 10 22) ≡ false)
+pub known_lies : (t : LineSegment) → LiesInStrip strip t → (is_right_of d t.a (point 10 22) ≡ false)
+    × (is_right_of d t.b (point 10 22) ≡ false)
     × (is_right_of d (point 10 19) t.a ≡ false) × (is_right_of d (point 10 19) t.b ≡ false)
 known_lies t lies = (lies.right_a, lies.right_b, lies.left_a, lies.left_b)
 

@@ -1,8 +1,9 @@
-ghost use Rattle.line_meetings.specs.Strips.{is_beside_strip, is_right_of as is_right, left_sum, right_sum, strip_with};
+ghost use Rattle.drawing_review.specs.Strips.{is_beside_strip, is_right_of as is_right, left_sum, right_sum, strip_with};
 ghost use Rattle.std.specs.Prelude.{◌≡◌, ◌≤◌, ◌+◌, ◌*◌};
 
-use crate::touches::times;
-use drawing_review::{GridPoint, LineSegment};
+use crate::grid_point::GridPoint;
+use crate::segment::LineSegment;
+use crate::sides::times;
 
 /// The direction from a point to another.
 #[derive(Clone, Copy)]
