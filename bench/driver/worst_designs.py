@@ -6,6 +6,7 @@ import math
 import random
 
 COUNT = 1_000_000
+REACH = 29_000
 STOP = b"\x80\x01\x00\x00"
 TRIM = b"\x80\x80\x07\x00"
 # The program and the words of each command: IN is the design. What it writes has the name `written`.
@@ -22,7 +23,7 @@ COMMANDS = {
     "thumbnails": ("design", "edit IN written.pes thumbnails"),
     "picture": ("picture", "IN written.svg"),
     "plain": ("picture", "IN written.svg plain"),
-    "hoop": ("picture", "IN written.svg hoop=100x100"),
+    "hoop": ("picture", "IN written.svg 100 100"),
 }
 
 
@@ -65,10 +66,15 @@ def satin():
 
 
 def walk():
-    """A random walk by at most a millimetre."""
+    """A random walk by at most a millimetre, turned back where it would leave the field."""
     chance = random.Random(10)
-    moves = [unit(chance.randint(-10, 10), chance.randint(-10, 10)) for _ in range(10_000)]
-    return b"".join(chance.choice(moves) for _ in range(COUNT))
+    units, at = [], [0, 0]
+    for _ in range(COUNT):
+        move = [chance.randint(-10, 10) for _ in at]
+        move = [-by if abs(place + by) > REACH else by for place, by in zip(at, move)]
+        at = [place + by for place, by in zip(at, move)]
+        units.append(unit(*move))
+    return b"".join(units)
 
 
 def spiral():

@@ -105,6 +105,7 @@ def worst():
     yield "a zigzag of 65,472 points on four places", 1, [zigzag()]
     yield "52,000 segments beside each other, 6 across 1", 2, [diagonals(363, 60)]
     yield "the same in 1,000 lines, in random order", 2, [scattered(diagonals(363, 60), 52)]
+    yield "52,000 segments beside each other, 36 across 1", 2, [diagonals(363, 10)]
     yield "26,000 spokes to points that a place sees", 1, [spokes()]
     yield "1,024 parallel diagonals", 2, [parallels()]
     yield "a weave of 512 lines by 512", 2, [weave()]
