@@ -22,10 +22,9 @@ def kept_counts():
     for _, row in document.rows("routes"):
         if tables.COUNTED in row:
             counts[route_name(row["Drawing"], row["Lines"])] = row[tables.COUNTED]
-    for heading, row in document.rows("worst"):
-        if heading.startswith(worst.COUNTED):
-            name, *cells = row.items()
-            counts.update((worst_name(command, name[1]), count) for command, count in cells)
+    for _, row in document.rows("worst"):
+        if tables.COUNTED in row:
+            counts[worst_name(row["Command"], row["Input"])] = row[tables.COUNTED]
     return {name: float(text.replace(",", "")) for name, text in counts.items() if text != "–"}
 
 
@@ -92,6 +91,8 @@ def check(programs):
     say(f"counting instructions of {len(rows)} rows")
     counts = counting.instructions_of_all([(stitch, words) for _, words in rows])
     found = [(name, count / 1e6, kept.get(name)) for (name, _), count in zip(rows, counts)]
-    for (_, name, command), count in worst.counted(list(worst.made()), programs).items():
-        found.append((worst_name(command, name), count, kept.get(worst_name(command, name))))
+    chosen = [run for run in worst.all_runs(programs) if worst_name(run.command, run.name) in kept]
+    for run, count in worst.counted(chosen).items():
+        name = worst_name(run.command, run.name)
+        found.append((name, count, kept[name]))
     return 1 if report(found) else 0
