@@ -1,7 +1,7 @@
 -- Worked strips.
 use Rattle.std.proofs.Common.{◌≡◌, ℕ, pos, true, false, [], ◌∷◌, map, refl}
 use Rattle.drawing_review.specs.Segments.{drawn_segment}
-use Rattle.drawing_review.specs.Strips.{is_beside_strip, is_right_of, left_sum, right_sum, strip_with}
+use Rattle.drawing_review.specs.Strips.{is_beside_strip, is_right_of, least_strip, left_sum, right_sum, strip_along, strip_with}
 use Rattle.drawing_review.specs.declared.grid_point.GridPoint.{GridPoint}
 use Rattle.drawing_review.specs.declared.segment.LineSegment.{LineSegment}
 use Rattle.drawing_review.specs.declared.strip.Direction.{Direction}
@@ -34,6 +34,14 @@ known_with = (refl, refl, refl)
 abbrev from_to : GridPoint → GridPoint → LineSegment
 from_to p q = record (drawn_segment (record { block = 2; line = 0; number = 0; is_first = false; is_last = false })
     (record { x = pos 0; y = pos 0 }) (record { x = pos 0; y = pos 0 })) { a = p; b = q }
+
+pub known_least : least_strip
+    ≡ record { along = record { from = point 0 0; to = point 0 0 }; right = point 0 0; left = point 0 0 }
+known_least = refl
+
+-- from its end a to its end b
+pub known_along : strip_along (from_to (point 10 20) (point 14 23)) ≡ record { along = d; right = point 10 20; left = point 10 20 }
+known_along = refl
 
 -- both ends to the right, both to the left, one on each side, one on the rim
 pub known_beside : map (is_beside_strip strip) (from_to (point 10 23) (point 10 24) ∷ from_to (point 10 18) (point 10 17)

@@ -19,6 +19,22 @@ left_sum d p = d.from.x * p.y + d.to.y * p.x
 abbrev pub is_right_of : Direction → (p q : GridPoint) → Bool
 is_right_of d p q = nat_lt (right_sum d q + left_sum d p) (right_sum d p + left_sum d q)
 
+-- The point 0 0.
+abbrev pub least_point : GridPoint
+least_point = record { x = 0; y = 0 }
+
+-- The strip of the least point alone, along no direction.
+abbrev pub least_strip : Strip
+least_strip = record {
+  along = record { from = least_point; to = least_point };
+  right = least_point;
+  left = least_point;
+}
+
+-- The strip along a segment that has its end a alone.
+abbrev pub strip_along : LineSegment → Strip
+strip_along s = record { along = record { from = s.a; to = s.b }; right = s.a; left = s.a }
+
 -- A segment lies beside a strip: both ends on one side of it.
 abbrev pub is_beside_strip : Strip → LineSegment → Bool
 is_beside_strip strip s =

@@ -1,5 +1,5 @@
-//! Segments of a drawing's lines, with coordinates that are never negative, whether a point is near one, and which points
-//! segments join.
+//! Segments of a drawing's lines, with coordinates that are never negative: whether a point is near one, on which side it
+//! lies, which points segments join, and strips that segments lie beside.
 //!
 //! ```
 //! use design_model::Point;

@@ -1,4 +1,4 @@
-ghost use Rattle.drawing_review.specs.Strips.{is_beside_strip, is_right_of as is_right, left_sum, right_sum, strip_with};
+ghost use Rattle.drawing_review.specs.Strips.{is_beside_strip, is_right_of as is_right, least_strip, left_sum, right_sum, strip_along, strip_with};
 ghost use Rattle.std.specs.Prelude.{◌≡◌, ◌≤◌, ◌+◌, ◌*◌};
 
 use crate::grid_point::GridPoint;
@@ -12,7 +12,8 @@ pub struct Direction {
     pub to: GridPoint,
 }
 
-/// What lies between two points across a direction.
+/// What lies between two points across a direction, the one furthest to the right and the one furthest to the left. `y`
+/// grows downwards.
 #[derive(Clone, Copy)]
 pub struct Strip {
     pub along: Direction,
@@ -45,8 +46,10 @@ impl Direction {
 }
 
 impl Strip {
-    /// Returns a strip at the least point, along no direction.
-    pub fn empty() -> Strip {
+    /// Returns the strip of the point 0 0 alone, along no direction.
+    pub fn least() -> Strip
+        ensures { result ≡ least_strip }
+    {
         let least = GridPoint { x: 0, y: 0 };
         Strip {
             along: Direction {
@@ -58,8 +61,10 @@ impl Strip {
         }
     }
 
-    /// Returns the strip along a segment.
-    pub fn of(s: &LineSegment) -> Strip {
+    /// Returns the strip along a segment that has its end `a` alone.
+    pub fn of(s: &LineSegment) -> Strip
+        ensures { result ≡ strip_along s.now }
+    {
         Strip {
             along: Direction { from: s.a, to: s.b },
             right: s.a,

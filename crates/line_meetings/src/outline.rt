@@ -66,6 +66,6 @@ fn strip_of_all(parts: &[IndexedPart]) -> Strip
 fn first_strip(parts: &[IndexedPart]) -> Strip {
     match parts.first() {
         Some(first) => Strip::of(&first.part),
-        None => Strip::empty(),
+        None => Strip::least(),
     }
 }

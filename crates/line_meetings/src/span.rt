@@ -66,6 +66,7 @@ impl Span {
             greatest: self.greatest.max(other.greatest),
         }
     }
+
     /// Returns the greatest span inside both.
     pub fn common(&self, other: &Span) -> Span
         ensures { result ≡ common_span self.now other.now }
