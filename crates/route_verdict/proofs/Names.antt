@@ -1,7 +1,7 @@
 -- Names from elsewhere that several files of these proofs use.
 pub use Rattle.std.proofs.lemmas.Bool.Decides.{nat_tests}
 pub use Rattle.std.proofs.lemmas.List.{append_assoc, at_drop_more, length-append, length-drop, length-map}
-pub use Rattle.std.proofs.lemmas.List.Elements.{All-append, All-cons, All-contains, All-head, All-nil, All-tail}
+pub use Rattle.std.proofs.lemmas.List.Elements.{All-cons, All-contains, All-head, All-nil, All-tail}
 pub use Rattle.std.specs.List.{AllZip, concat, list_all}
 pub use Rattle.design_model.specs.Acts.{acts_of, acts_without_numbers}
 pub use Rattle.design_model.specs.Designs.{DesignValue}
@@ -12,7 +12,7 @@ pub use Rattle.design_model.specs.declared.command.Command.{Command}
 pub use Rattle.design_model.specs.declared.command.Command.TheVariants.{Jump, Stitch, Stop, Trim}
 pub use Rattle.design_model.specs.declared.point.Point.{Point}
 pub use Rattle.line_graph.specs.Drawings.{DrawingValue, KeepsDrawingLimits}
-pub use Rattle.line_graph.specs.LineNeedles.{NeedlesLeadAlong, cost_of_line, needles_of_line}
+pub use Rattle.line_graph.specs.LineNeedles.{cost_of_line}
 pub use Rattle.line_graph.specs.DrawnWalks.{FittingWalksAreThreads, IsThreadOver, PiecesAreValid}
 pub use Rattle.line_graph.specs.PieceGraphs.{PieceValue, edge_between, junctions_of, piece_graph}
 pub use Rattle.line_graph.specs.PieceWalks.{IsLeastWalk, edge_cost, edge_sum, is_fitting_walk, piece_cost, walk_cost}
@@ -43,4 +43,3 @@ pub use Rattle.route_verdict.specs.Verdicts.{HasShortLists, IsCorrectPieceCert, 
 pub use Rattle.route_verdict.specs.Verdicts.{cost_above, count_reason, cuts_reason, difference_of, piece_reason, pieces_reason, reason_of}
 pub use Rattle.route_verdict.specs.Verdicts.{retraced_reason, verdict_of, verdict_of_reason, walk_reason}
 pub use Rattle.route_verdict.specs.declared.verdict.Verdict.{Verdict}
-pub use Rattle.step_splitter.specs.Chains.{IsNeedlePoint}

@@ -1,38 +1,6 @@
 -- Walks sewn one after another.
-use Rattle.std.proofs.Common.{◌≡◌, ◌≤◌, ◌<◌, ℕ, ◌+◌, Bool, true, false, cond, List, [], ◌∷◌, ◌++◌, length, drop, reverse, All, arith, sym, ◌∙◌, ap, subst}
-use Rattle.std.proofs.lemmas.List.Concat.{flat_map-cons}
-use Rattle.route_verdict.proofs.Names.{nat_tests, append_assoc, length-append, All-head, All-nil, All-tail, PieceCert, Command, Point, DesignValue, IsNeedlePoint, Pass, DrawingValue, KeepsDrawingLimits, block_of_passes, runs_of, needles_of_walk, walks_of, with_commands, AllDrawn, AreDrawn, later_needles, run_commands, All-append, commands_after, NeedlesLeadAlong, needles_of_line, needles_of_pass}
-use Rattle.line_graph.proofs.CallerLemmas.{range_back}
-
-either : (ps : List Point) (back : Bool) → All IsNeedlePoint ps → All IsNeedlePoint (cond back (reverse ps) ps)
-either ps true all = range_back ps [] all (All-nil IsNeedlePoint)
-either ps false all = all
-
-dropped : (ps : List Point) → All IsNeedlePoint ps → All IsNeedlePoint (drop 1 ps)
-dropped [] all = all
-dropped (p ∷ ps) all = All-tail IsNeedlePoint p ps all
-
-pass_in_range : (d : DrawingValue) → KeepsDrawingLimits d → NeedlesLeadAlong d → (pass : Pass) → pass.line < length d.lines
-    → All IsNeedlePoint (needles_of_pass d pass)
-pass_in_range d keeps law pass below = either (needles_of_line d pass.line) pass.back (law pass.line keeps below).along.in_range
-
-later_in_range : (d : DrawingValue) → KeepsDrawingLimits d → NeedlesLeadAlong d → (walk : List Pass) → AreDrawn d walk
-    → All IsNeedlePoint (later_needles d walk)
-later_in_range d keeps law [] drawn = All-nil IsNeedlePoint
-later_in_range d keeps law (pass ∷ walk) drawn =
-    subst (All IsNeedlePoint) (sym (flat_map-cons (λ (next : Pass). drop 1 (needles_of_pass d next)) pass walk))
-    (All-append IsNeedlePoint (drop 1 (needles_of_pass d pass)) (later_needles d walk)
-    (dropped (needles_of_pass d pass) (pass_in_range d keeps law pass (All-head (λ (p : Pass). p.line < length d.lines) pass walk drawn)))
-    (later_in_range d keeps law walk (All-tail (λ (p : Pass). p.line < length d.lines) pass walk drawn)))
-
--- the needles of walks along a drawing's lines are in range
-pub walk_in_range : (d : DrawingValue) → KeepsDrawingLimits d → NeedlesLeadAlong d → (walk : List Pass) → AreDrawn d walk
-    → All IsNeedlePoint (needles_of_walk d walk)
-walk_in_range d keeps law [] drawn = All-nil IsNeedlePoint
-walk_in_range d keeps law (pass ∷ walk) drawn =
-    All-append IsNeedlePoint (needles_of_pass d pass) (later_needles d walk)
-    (pass_in_range d keeps law pass (All-head (λ (p : Pass). p.line < length d.lines) pass walk drawn))
-    (later_in_range d keeps law walk (All-tail (λ (p : Pass). p.line < length d.lines) pass walk drawn))
+use Rattle.std.proofs.Common.{◌≡◌, ◌≤◌, ℕ, ◌+◌, List, ◌∷◌, ◌++◌, length, arith, sym, ◌∙◌, ap, subst}
+use Rattle.route_verdict.proofs.Names.{nat_tests, append_assoc, length-append, All-head, All-tail, PieceCert, Command, DesignValue, DrawingValue, block_of_passes, runs_of, needles_of_walk, walks_of, with_commands, AllDrawn, AreDrawn, run_commands, commands_after}
 
 -- what is left to sew, after the walks so far
 pub record Left (d : DrawingValue) (pieces : List PieceCert) (begun design : DesignValue) (before : ℕ)

@@ -4,13 +4,13 @@ ghost use Rattle.design_model.specs.declared.design.TheConstants.{MAX_COMMANDS};
 ghost use Rattle.line_graph.specs.Runs.{block_of_passes, commands_after, runs_of, sewn_design};
 ghost use Rattle.line_graph.specs.Walks.{needles_of_walk};
 ghost use Rattle.odd_cuts.specs.Certificates.{walks_of};
-ghost use Rattle.route_verdict.specs.SewingSteps.{AllDrawn, AreDrawn, run_commands};
+ghost use Rattle.route_verdict.specs.SewingSteps.{AllDrawn, AreDrawn, later_needles, run_commands};
 ghost use Rattle.std.specs.Prelude.{◌≡◌, ◌≤◌, ◌+◌, ◌-◌, All, IfOk, OnOk, [], length, map, replicate};
 ghost use Rattle.step_splitter.specs.Chains.{IsNeedlePoint};
 
-use crate::walk_needles::walk_needles;
+use crate::walk_needles::{after_first, pass_needles};
 use design_model::{Command, Design, Memory, Point};
-use line_graph::{Drawing, Pass, needles_lead_along};
+use line_graph::{Drawing, Pass};
 use odd_cuts::{Cert, PieceCert};
 use std::alloc::Global;
 
@@ -82,11 +82,10 @@ fn sew_walk(
     ensures sewn { OnOk result (design.new ≡ with_commands design.old
         (run_commands before (block_of_passes d.now walk.now) (needles_of_walk d.now walk.now))) }
 {
-    d.keeps_limits();
-    needles_lead_along();
     let block = block_of_walk(d, walk);
-    let points = walk_needles(alloc, d, walk)?;
-    sew_run(design, before, block, points.as_slice())?;
+    add_stops(design, before, block)?;
+    sew_passes(alloc, design, d, walk)?;
+    design.add(Command::Trim)?;
     Ok(block)
 }
 
@@ -101,20 +100,6 @@ pub(crate) fn block_of_walk(d: &Drawing, walk: &[Pass]) -> u32
     }
 }
 
-/// Adds the commands of a run in a block, after a run in the block `before`.
-fn sew_run(design: &mut Design, before: u32, block: u32, points: &[Point]) -> Result<(), Memory>
-    requires in_range { All IsNeedlePoint points.now }
-    requires room { length design.old.commands
-        + length (run_commands before block points.now) ≤ MAX_COMMANDS }
-    ensures { OnOk result (design.new ≡ with_commands design.old
-        (run_commands before block points.now)) }
-{
-    add_stops(design, before, block)?;
-    add_stitches(design, points)?;
-    design.add(Command::Trim)?;
-    Ok(())
-}
-
 /// Adds a stop for each block after the one before, up to that block.
 fn add_stops(design: &mut Design, before: u32, block: u32) -> Result<(), Memory>
     requires { length design.old.commands + (block - before) ≤ MAX_COMMANDS }
@@ -123,6 +108,35 @@ fn add_stops(design: &mut Design, before: u32, block: u32) -> Result<(), Memory>
 {
     for _ in before..block {
         design.add(Command::Stop)?;
+    }
+    Ok(())
+}
+
+/// Adds a stitch at each needle point of a walk.
+fn sew_passes(alloc: Global, design: &mut Design, d: &Drawing, walk: &[Pass]) -> Result<(), Memory>
+    requires there { AreDrawn d.now walk.now }
+    requires room { length design.old.commands + length (needles_of_walk d.now walk.now) ≤ MAX_COMMANDS }
+    ensures { OnOk result (design.new ≡ with_commands design.old
+        (map (λ p. Stitch p) (needles_of_walk d.now walk.now))) }
+{
+    let Some((first, after)) = walk.split_first() else {
+        return Ok(());
+    };
+    let points = pass_needles(alloc, d, *first)?;
+    add_stitches(design, points.as_slice())?;
+    sew_later(alloc, design, d, after)
+}
+
+/// Adds a stitch at each needle point of further passes, but the first of each.
+fn sew_later(alloc: Global, design: &mut Design, d: &Drawing, walk: &[Pass]) -> Result<(), Memory>
+    requires there { AreDrawn d.now walk.now }
+    requires room { length design.old.commands + length (later_needles d.now walk.now) ≤ MAX_COMMANDS }
+    ensures { OnOk result (design.new ≡ with_commands design.old
+        (map (λ p. Stitch p) (later_needles d.now walk.now))) }
+{
+    for pass in walk {
+        let points = pass_needles(alloc, d, *pass)?;
+        add_stitches(design, after_first(points.as_slice()))?;
     }
     Ok(())
 }

@@ -1,6 +1,7 @@
 ghost use Rattle.line_graph.specs.Walks.{needles_of_pass, needles_of_walk};
 ghost use Rattle.route_verdict.specs.SewingSteps.{AreDrawn, later_needles};
-ghost use Rattle.std.specs.Prelude.{◌≡◌, ◌<◌, ◌++◌, IfOk, OnOk, drop, if◌then◌else◌, length, reverse};
+ghost use Rattle.std.specs.Prelude.{◌≡◌, ◌<◌, ◌++◌, All, IfOk, OnOk, drop, if◌then◌else◌, length, reverse};
+ghost use Rattle.step_splitter.specs.Chains.{IsNeedlePoint};
 
 use design_model::{Memory, Point, Points};
 use line_graph::{Drawing, Pass, needles};
@@ -33,9 +34,10 @@ fn add_later(alloc: Global, points: &mut Points, d: &Drawing, walk: &[Pass]) -> 
 }
 
 /// Returns the needle points of a pass.
-fn pass_needles(alloc: Global, d: &Drawing, pass: Pass) -> Result<Points, Memory>
+pub(crate) fn pass_needles(alloc: Global, d: &Drawing, pass: Pass) -> Result<Points, Memory>
     requires { pass.line < length d.now.lines }
-    ensures { IfOk result (λ points. points ≡ needles_of_pass d.now pass) }
+    ensures value { IfOk result (λ points. points ≡ needles_of_pass d.now pass) }
+    ensures in_range { IfOk result (λ points. All IsNeedlePoint points) }
 {
     let points = directed(needles(alloc, d, pass.line)?, pass.back);
     Ok(points)
@@ -51,7 +53,8 @@ fn directed(points: Points, back: bool) -> Points
     points
 }
 
-fn after_first(points: &[Point]) -> &[Point]
+/// Returns the points but the first.
+pub(crate) fn after_first(points: &[Point]) -> &[Point]
     ensures { result.now ≡ drop 1 points.now }
 {
     match points {
