@@ -5,6 +5,7 @@ use Rattle.design_picture.proofs.Names.{DesignValue, strokes_of}
 use Rattle.design_picture.proofs.PictureFacts.{point, sewn}
 use Rattle.design_model.specs.declared.command.Command.TheVariants.{Jump, Stitch}
 use Rattle.design_model.specs.declared.command.Command.{Command}
+use Rattle.design_model.specs.declared.point.Point.{Point}
 use Rattle.design_picture.specs.declared.crowds.TheConstants.{MIN_CROWD}
 use Rattle.design_picture.specs.Crowds.{crowd_square, crowds_text}
 use Rattle.design_picture.specs.declared.arrow_squares.TheConstants.{ARROW_SQUARE}
@@ -13,6 +14,7 @@ use Rattle.design_model.specs.declared.bounds.Extent.{Extent}
 use Rattle.design_picture.specs.declared.block_line.TheConstants.{LINE_HEIGHT}
 use Rattle.design_picture.specs.declared.layers.Layer.TheVariants as layer
 use Rattle.design_picture.specs.declared.layout.TheConstants.{MARGIN, MIN_WIDTH, TEXT_HEIGHT}
+use Rattle.design_picture.specs.declared.links.PointPair.{PointPair}
 use Rattle.design_picture.specs.declared.links.TheConstants.{MAX_PASSES}
 use Rattle.design_picture.specs.declared.pen.TheConstants.{ARROW_GAP}
 use Rattle.design_picture.specs.declared.threads.TheConstants.{MIN_SHOWN}
@@ -20,7 +22,7 @@ use Rattle.design_picture.specs.ArrowSquares.{square_of_pass, square_number}
 use Rattle.design_picture.specs.Hoops.{fit_words, hoop_end, hoop_key, hoop_key_end, hoop_key_start, hoop_start, hoop_text, is_beyond_hoop, offset_text, rim_of, too_large}
 use Rattle.design_picture.specs.Layers.{layer_text}
 use Rattle.design_picture.specs.Layouts.{area_of}
-use Rattle.design_picture.specs.Passes.{passes_counted}
+use Rattle.design_picture.specs.Passes.{earlier_passes, forward_stitch, is_forward, passes_by, passes_toward, passes_with, with_pass}
 use Rattle.design_picture.specs.Threads.{arc_text, arrow_shape, bow_of, hole_shape}
 use Rattle.hoop_check.specs.declared.fitting.Fit.TheVariants as fit
 use Rattle.design_model.specs.Lengths.{length_of, square_of, whole_root}
@@ -49,9 +51,36 @@ pub known_radii : map (λ pass. bow_of (record { pass = pass; arrow = false; fro
 unfolding square_of
 known_radii = refl
 
--- Three passes are counted, and four are three.
-pub known_passes : map passes_counted (None ∷ Some 1 ∷ Some 3 ∷ Some 4 ∷ []) ≡ 0 ∷ 1 ∷ 3 ∷ 3 ∷ []
-known_passes = refl
+abbrev stitch : Point → Point → PointPair
+stitch from to = record { from = from; to = to }
+
+-- To the right and down a column a stitch leads forward, to the left and up it leads back, and one on a point does neither.
+pub known_forward : map is_forward (stitch (point (pos 0) (pos 9)) (point (pos 1) (pos 2)) ∷ stitch (point (pos 1) (pos 2)) (point (pos 1) (pos 3))
+    ∷ stitch (point (pos 1) (pos 2)) (point (pos 0) (pos 9)) ∷ stitch (point (pos 1) (pos 3)) (point (pos 1) (pos 2))
+    ∷ stitch (point (pos 1) (pos 3)) (point (pos 1) (pos 3)) ∷ []) ≡ true ∷ true ∷ false ∷ false ∷ false ∷ []
+known_forward = refl
+
+pub known_kept : (forward_stitch (stitch (point (pos 5) (pos 0)) (point (pos 4) (pos 0))) ≡ stitch (point (pos 4) (pos 0)) (point (pos 5) (pos 0)))
+    × (forward_stitch (stitch (point (pos 4) (pos 0)) (point (pos 5) (pos 0))) ≡ stitch (point (pos 4) (pos 0)) (point (pos 5) (pos 0)))
+known_kept = (refl, refl)
+
+-- Three passes are counted in each direction, and four are three.
+pub known_passes : (map (passes_toward true) (record { forward = 1; back = 3 } ∷ record { forward = 4; back = 2 } ∷ []) ≡ 1 ∷ 3 ∷ [])
+    × (map (passes_toward false) (record { forward = 1; back = 3 } ∷ record { forward = 4; back = 2 } ∷ []) ≡ 3 ∷ 2 ∷ [])
+    × (with_pass true (record { forward = 1; back = 3 }) ≡ record { forward = 2; back = 3 })
+    × (with_pass false (record { forward = 1; back = 3 }) ≡ record { forward = 1; back = 3 })
+    × (with_pass false (record { forward = 3; back = 0 }) ≡ record { forward = 3; back = 1 })
+known_passes = (refl, refl, refl, refl, refl)
+
+-- A stitch sewn once forward and twice back was sewn three times, whichever way the next one leads.
+pub known_earlier : map (earlier_passes (passes_by (λ kept. Some (record { forward = 1; back = 2 }))))
+    (stitch (point (pos 0) (pos 9)) (point (pos 1) (pos 2)) ∷ stitch (point (pos 1) (pos 2)) (point (pos 0) (pos 9)) ∷ []) ≡ 3 ∷ 3 ∷ []
+known_earlier = refl
+
+-- One more pass is counted of that stitch alone.
+pub known_more : map (passes_with (passes_by (λ kept. None)) (stitch (point (pos 0) (pos 9)) (point (pos 1) (pos 2))))
+    (stitch (point (pos 0) (pos 9)) (point (pos 1) (pos 2)) ∷ stitch (point (pos 1) (pos 2)) (point (pos 0) (pos 9)) ∷ []) ≡ 1 ∷ 0 ∷ []
+known_more = refl
 
 -- A design of 5 mm by 20.1 mm.
 abbrev extent : Extent

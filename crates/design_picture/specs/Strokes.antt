@@ -1,6 +1,6 @@
 -- What a picture shows of a design: a stroke for each act, in order. Lengths are in thousandths of
 -- a millimetre.
-use Rattle.std.specs.Prelude.{ℕ, ◌+◌, ◌==◌, Bool, false, List, [], ◌∷◌, Option, None, if◌then◌else◌}
+use Rattle.std.specs.Prelude.{ℕ, ◌+◌, ◌==◌, Bool, false, List, [], ◌∷◌, if◌then◌else◌}
 use Rattle.std.specs.HashMap.{get}
 use Rattle.std.specs.HashSet.{contains}
 use Rattle.design_model.specs.declared.act.Act.{Act}
@@ -18,24 +18,24 @@ use Rattle.design_picture.specs.declared.strokes.SewnStitch.{SewnStitch}
 use Rattle.design_picture.specs.declared.strokes.Stroke.{Stroke}
 use Rattle.design_picture.specs.declared.strokes.Stroke.TheVariants.{Begin, Float, Sewn, Trim, Stop}
 use Rattle.design_picture.specs.ArrowSquares.{arrows_with, has_arrow, is_same_square, square_of_pass}
-use Rattle.design_picture.specs.Passes.{earlier_passes, is_same_stitch, passes_with}
+use Rattle.design_picture.specs.Passes.{earlier_passes, is_same_stitch, passes_by, passes_with}
 use Rattle.design_picture.specs.Pens.{first_pen, pen_after}
 
 -- What was sewn so far: the passes of each stitch, and the squares that have an arrow.
 pub record SewnSoFar : Type 0 where
-  pub passes : PointPair → Option ℕ
+  pub passes : PointPair → ℕ
   pub arrows : ArrowSquare → Bool
 
 -- What was sewn so far, as the stitches and squares have it.
 abbrev pub sewn_by : SewnStitches → SewnSoFar
 sewn_by sewn = record {
-  passes = get is_same_stitch sewn.passes;
+  passes = passes_by (get is_same_stitch sewn.passes);
   arrows = contains is_same_square sewn.arrows;
 }
 
 -- Nothing was sewn so far.
 abbrev pub none_passed : SewnSoFar
-none_passed = record { passes = λ stitch. None; arrows = λ square. false }
+none_passed = record { passes = λ stitch. 0; arrows = λ square. false }
 
 -- The end of the block that a pen is in.
 abbrev pub block_end : DesignValue → Pen → BlockEnd

@@ -1,6 +1,6 @@
-ghost use Rattle.design_picture.specs.Passes.{earlier_passes, is_same_stitch, passes_counted, passes_with, turned_stitch};
+ghost use Rattle.design_picture.specs.Passes.{earlier_passes, forward_stitch, is_forward, is_same_stitch, passes_by, passes_toward, passes_with, turned_stitch, with_pass};
 ghost use Rattle.std.specs.HashMap.{get};
-ghost use Rattle.std.specs.Prelude.{◌≡◌, ◌≤◌, IfOk, IsTrue, OnOk, Some};
+ghost use Rattle.std.specs.Prelude.{◌≡◌, ◌≤◌, IfOk, OnOk, unwrap_or};
 
 use design_model::{Memory, Point};
 use std::collections::HashMap;
@@ -15,42 +15,103 @@ pub struct PointPair {
     pub to: Point,
 }
 
+/// How often a stitch was sewn forward and back. It leads forward where its first needle point is the one further to the
+/// left, or of two in a column the upper one.
+#[derive(Clone, Copy)]
+pub struct Passes {
+    pub forward: u32,
+    pub back: u32,
+}
+
+/// The passes of each stitch, by the stitch forward.
+pub type SewnPasses = HashMap<PointPair, Passes>;
+
+/// No passes.
+const NO_PASSES: Passes = Passes {
+    forward: 0,
+    back: 0,
+};
+
+impl Passes {
+    /// Returns the passes in one direction, as far as they are distinguished.
+    fn toward(&self, forward: bool) -> u32
+        ensures value { result ≡ passes_toward forward self.now }
+        ensures most { result ≤ MAX_PASSES }
+    {
+        if forward {
+            self.forward.min(MAX_PASSES)
+        } else {
+            self.back.min(MAX_PASSES)
+        }
+    }
+
+    /// Returns the passes with one more in one direction.
+    fn with(&self, forward: bool) -> Passes
+        ensures { result ≡ with_pass forward self.now }
+    {
+        let passes = (self.toward(forward) + 1).min(MAX_PASSES);
+        if forward {
+            Passes {
+                forward: passes,
+                back: self.back,
+            }
+        } else {
+            Passes {
+                forward: self.forward,
+                back: passes,
+            }
+        }
+    }
+}
+
 /// Returns how often a stitch was sewn before, in either direction, and counts it.
-pub(crate) fn pass(passes: &mut HashMap<PointPair, u32>, stitch: PointPair) -> Result<u32, Memory>
-    ensures value { IfOk result (λ n. n ≡ earlier_passes (get is_same_stitch passes.old) stitch) }
-    ensures kept { OnOk result (get is_same_stitch passes.new
-        ≡ passes_with (get is_same_stitch passes.old) stitch) }
+pub(crate) fn pass(passes: &mut SewnPasses, stitch: PointPair) -> Result<u32, Memory>
+    ensures value { IfOk result (λ n.
+        n ≡ earlier_passes (passes_by (get is_same_stitch passes.old)) stitch) }
+    ensures kept { OnOk result (passes_by (get is_same_stitch passes.new)
+        ≡ passes_with (passes_by (get is_same_stitch passes.old)) stitch) }
 {
-    let kept = kept_passes(passes, stitch);
-    let along = counted(kept);
-    let against = counted(kept_passes(passes, turned(stitch)));
+    let kept = kept_passes(passes, forward(stitch));
+    let along = kept.toward(leads_forward(stitch));
+    let against = kept.toward(leads_forward(turned(stitch)));
     count(passes, stitch, kept)?;
     Ok(along + against)
 }
 
 /// Counts a stitch by what is kept of it. Nothing changes where no more passes are distinguished.
-fn count(
-    passes: &mut HashMap<PointPair, u32>,
-    stitch: PointPair,
-    kept: Option<u32>,
-) -> Result<(), Memory>
-    requires { kept ≡ get is_same_stitch passes.old stitch }
-    ensures { OnOk result (get is_same_stitch passes.new
-        ≡ passes_with (get is_same_stitch passes.old) stitch) }
+fn count(passes: &mut SewnPasses, stitch: PointPair, kept: Passes) -> Result<(), Memory>
+    requires { kept ≡ unwrap_or (get is_same_stitch passes.old (forward_stitch stitch)) NO_PASSES }
+    ensures { OnOk result (passes_by (get is_same_stitch passes.new)
+        ≡ passes_with (passes_by (get is_same_stitch passes.old)) stitch) }
 {
-    if is_full(kept) {
+    let is_forward = leads_forward(stitch);
+    if kept.toward(is_forward) == MAX_PASSES {
         return Ok(());
     }
-    passes.insert(stitch, (counted(kept) + 1).min(MAX_PASSES))?;
+    passes.insert(forward(stitch), kept.with(is_forward))?;
     Ok(())
 }
 
-fn is_full(kept: Option<u32>) -> bool
-    ensures { IsTrue result → kept ≡ Some MAX_PASSES }
+fn kept_passes(passes: &SewnPasses, forward: PointPair) -> Passes
+    ensures { result ≡ unwrap_or (get is_same_stitch passes.now forward) NO_PASSES }
 {
-    match kept {
-        Some(passes) => passes == MAX_PASSES,
-        None => false,
+    passes.get(&forward).copied().unwrap_or(NO_PASSES)
+}
+
+fn leads_forward(stitch: PointPair) -> bool
+    ensures { result ≡ is_forward stitch }
+{
+    stitch.from.x < stitch.to.x || (stitch.from.x == stitch.to.x && stitch.from.y < stitch.to.y)
+}
+
+/// Returns a stitch or the opposite one: that which leads forward, if one does.
+fn forward(stitch: PointPair) -> PointPair
+    ensures { result ≡ forward_stitch stitch }
+{
+    if leads_forward(stitch) {
+        stitch
+    } else {
+        turned(stitch)
     }
 }
 
@@ -60,21 +121,5 @@ fn turned(stitch: PointPair) -> PointPair
     PointPair {
         from: stitch.to,
         to: stitch.from,
-    }
-}
-
-fn kept_passes(passes: &HashMap<PointPair, u32>, stitch: PointPair) -> Option<u32>
-    ensures { result ≡ get is_same_stitch passes.now stitch }
-{
-    passes.get(&stitch).copied()
-}
-
-fn counted(kept: Option<u32>) -> u32
-    ensures value { result ≡ passes_counted kept }
-    ensures most { result ≤ MAX_PASSES }
-{
-    match kept {
-        Some(passes) => passes.min(MAX_PASSES),
-        None => 0,
     }
 }

@@ -2,17 +2,17 @@ ghost use Rattle.design_picture.specs.Strokes.{none_passed, sewn_by, sewn_stitch
 ghost use Rattle.std.specs.Prelude.{◌≡◌, IfOk, OnOk};
 
 use crate::arrow_squares::{ArrowSquare, put_arrow_square};
-use crate::links::{PointPair, pass};
+use crate::links::{PointPair, SewnPasses, pass};
 use crate::pen::Pen;
 use crate::strokes::SewnStitch;
 use design_model::{Memory, Point};
 use std::alloc::Global;
-use std::collections::{HashMap, HashSet};
+use std::collections::HashSet;
 
 /// What was sewn so far: how often each stitch was sewn, and which squares have an arrow.
 #[derive(Drop)]
 pub struct SewnStitches {
-    pub passes: HashMap<PointPair, u32>,
+    pub passes: SewnPasses,
     pub arrows: HashSet<ArrowSquare>,
 }
 
@@ -21,7 +21,7 @@ impl SewnStitches {
     pub(crate) fn with_room(alloc: Global, stitches: usize) -> Result<SewnStitches, Memory>
         ensures { IfOk result (λ sewn. sewn_by sewn ≡ none_passed) }
     {
-        let passes = HashMap::with_capacity(alloc, stitches)?;
+        let passes = SewnPasses::with_capacity(alloc, stitches)?;
         Ok(SewnStitches {
             passes,
             arrows: HashSet::new(alloc),
