@@ -1,7 +1,7 @@
-use Rattle.std.proofs.Common.{◌≡◌, ℕ, List, ◌++◌, ◌∙◌, take, sym, subst, arith, length-append, rules}
+use Rattle.std.proofs.Common.{◌≡◌, ℕ, List, ◌++◌, ◌∙◌, take, Ok, sym, subst, arith, length-append, rules}
 use Rattle.outside_io.proofs.Names.{nat_tests, length-take-le, IsContentPrefix}
 use Rattle.outside_io.proofs.WholeAnswers.{decided}
-use Rattle.outside_io.proofs.WholeFiles.{stays_on}
+use Rattle.outside_io.proofs.WholeFiles.{part_failed, stays_on}
 use Rattle.outside_io.proofs.whole_files.read_whole.Goals as goal
 
 pub loop-bytes-preserved : goal.loop-bytes-preserved
@@ -18,6 +18,23 @@ loop-bytes-preserved g c =
       begins = λ told is. subst (λ (b : List ℕ). IsContentPrefix (told c.args.name.now) b) (sym added) (next.on told (kept.same ∙ is));
     }
 
+pub returns-in_err-count-clause-reads : goal.returns-in_err-count-clause-reads
+returns-in_err-count-clause-reads g c =
+    let kept = c.loop-bytes.invariant in
+    part_failed _ c.loop-bytes.bytes c.read_next.new.buffer _ _ _ _ _ _ c.from_residual.result c.from_residual.ensures.1 kept.same
+    kept.stays kept.begins c.len.ensures c.in_err-count.ensures.reads
+
 pub returns-in_err-count-clause-decided : goal.returns-in_err-count-clause-decided
-returns-in_err-count-clause-decided g c = decided c.args.name.now c.args.limit (g.S.Store.view c.args.store.now)
-    (g.S.Store.view c.read_next.new.store) c.from_residual.result (search rules)
+returns-in_err-count-clause-decided g c =
+    decided _ _ (g.S.Store.view c.args.store.now) _ c.from_residual.result (returns-in_err-count-clause-reads g c)
+
+pub returns-then-count-eq0-clause-reads : goal.returns-then-count-eq0-clause-reads
+returns-then-count-eq0-clause-reads g c =
+    let kept = c.loop-bytes.invariant in
+    let reads = c.in_ok-count.ensures.reads in
+    let next = reads.3 c.loop-bytes.bytes (sym c.len.ensures) (λ told is. kept.begins told (sym kept.same ∙ is)) in
+    (kept.short, λ told is. next.end c.if-count-eq0.true told (kept.same ∙ is), stays_on kept.stays reads.0)
+
+pub returns-then-count-eq0-clause-decided : goal.returns-then-count-eq0-clause-decided
+returns-then-count-eq0-clause-decided g c =
+    decided _ _ (g.S.Store.view c.args.store.now) _ (Ok c.loop-bytes.bytes) (returns-then-count-eq0-clause-reads g c)
