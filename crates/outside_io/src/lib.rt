@@ -23,6 +23,7 @@ mod links;
 mod mem_sink;
 mod mem_store;
 mod new_file;
+mod real_files;
 mod sink;
 mod std_sink;
 mod store;
