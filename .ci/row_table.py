@@ -974,6 +974,36 @@ row("a cross in versions 1 and 2", {"a.rw": rw(1, *CROSS), "g.rw": rw(2, *CROSS)
     done("stitch_drawing edit b.rw d.rw centre mirror=y", "lines 4 pieces 1 cost 4\n", {"d.rw": rw(
         2, "step 10", "color 1", "line -10 0 0 0", "line 0 0 10 0", "line 0 10 0 0", "line 0 0 0 -10")}))
 
+# A line of another block cuts nothing. Lines are cut at points inside them that they list again, and where they come back to
+# their first point; a closed line is cut at the points that another line lists, and alone stays whole.
+row("lines that are cut into sections", {
+    "a.rw": rw(1, "step 10", "color 1", CROSS[2], "color 2", *CROSS[2:]),
+    "b.rw": rw(1, "step 10", "color 1", CROSS[2], "color 2", CROSS[3]),
+    "c.rw": rw(1, "step 10", "color 1", "line 0 0 5 5 9 0 5 5 0 9", "line 30 0 33 3 30 0 30 7"),
+    "d.rw": rw(1, "step 10", "color 1", "line 0 0 3 0 3 3 0 3 0 0", "line 3 0 0 3"),
+    "e.rw": rw(1, "step 10", "color 1", "line 0 0 3 0 3 3 0 0")},
+    done("stitch migrate a.rw k.rw", "lines 5 pieces 2 cost 6\n", {"k.rw": rw(
+        2, "step 10", "color 1", CROSS[2], "color 2", *CUT_CROSS[2:])}),
+    done("stitch migrate b.rw l.rw", "lines 2 pieces 2 cost 4\n", {"l.rw": rw(
+        2, "step 10", "color 1", CROSS[2], "color 2", CROSS[3])}),
+    done("stitch migrate c.rw m.rw", "lines 5 pieces 2 cost 7\n", {"m.rw": rw(
+        2, "step 10", "color 1", "line 0 0 5 5", "line 5 5 9 0 5 5", "line 5 5 0 9", "line 30 0 33 3 30 0", "line 30 0 30 7")}),
+    done("stitch migrate d.rw n.rw", "lines 4 pieces 1 cost 5\n", {"n.rw": rw(
+        2, "step 10", "color 1", "line 0 0 3 0", "line 3 0 3 3 0 3", "line 0 3 0 0", "line 3 0 0 3")}),
+    done("stitch migrate e.rw o.rw", "lines 1 pieces 1 cost 3\n", {"o.rw": rw(
+        2, "step 10", "color 1", "line 0 0 3 0 3 3 0 0")}))
+
+# The same 20 lines in three blocks, drawn row by row, and every second row upwards: a piece for each of the four columns.
+COLUMNS = [f"line {x} {y + 10 * up} {x} {y + 10 - 10 * up}" for y, up in ((0, 0), (10, 1), (20, 0), (30, 1), (40, 0))
+           for x in (0, 100, 200, 300)]
+row("twelve columns in three blocks", {
+    "a.rw": rw(2, "step 10", *[line for block in (1, 2, 3) for line in (f"color {block}", *COLUMNS)])},
+    done("stitch_drawing look a.rw", text(
+        "size 300 50 pieces 12", *[
+            f"block {block} piece {4 * block + column - 4} lines 5 junctions 6 odd 2 stitches 5 shortest 10 longest 10 short 0 "
+            f"thread 50 travel {100 if column > 1 else 300 if block > 1 else 0}" for block in (1, 2, 3) for column in (1, 2, 3, 4)],
+        "pieces 12 places 0 thread 600 travel 1500")))
+
 # In version 1 the T that both lines list is two pieces, and no command makes one of them. Lines that list no point twice but
 # at their ends stay as they are.
 row("a T and an L in version 1", {

@@ -1,4 +1,4 @@
-//! Tests of drawings: lines cut into sections, drawings cut into pieces, their texts, samples and traces, and
+//! Tests of drawings: the number of their sections, drawings cut into pieces, their texts, samples and traces, and
 //! where lines should meet.
 #![tactic(auto)]
 

@@ -4,6 +4,5 @@ mod drawings;
 mod joined_drawings;
 mod places;
 mod samples;
-mod sections;
 mod texts;
 mod traces;

@@ -1,41 +1,11 @@
-use super::comparisons::compare;
-use super::drawings::DrawingPart::{Block, Line};
-use super::drawings::grown;
+use super::comparisons::compare_row;
 use crate::points_of;
-use design_model::{Point, Points};
-use line_graph::{DrawKind, Drawing, DrawingMaker, join, joined};
+use design_model::{Memory, Point, Points};
+use line_graph::{DrawKind, Drawing, DrawingMaker, join};
 use std::alloc::Global;
-use std::test::Fail;
-
-#[test]
-fn a_joined_drawing_has_the_sections_of_its_lines(rt: HostRuntime) -> Result<(), Fail> {
-    let cross = [
-        Block(1),
-        Line(&[(0, 0), (10, 0), (20, 0)]),
-        Block(2),
-        Line(&[(0, 0), (10, 0), (20, 0)]),
-        Line(&[(10, -10), (10, 0), (10, 10)]),
-    ];
-    let d = grown(rt.alloc(), 10, &cross).ok().ok_or("a drawing")?;
-    compare(&rt, !joined(&d), true);
-    let whole = join(rt.alloc(), &d).ok().ok_or("no memory")?;
-    compare(&rt, joined(&whole), true);
-    compare(&rt, whole.block_count(), 2);
-    compare(&rt, whole.line_count(), 5);
-    if whole.line_count() == 5 {
-        compare(&rt, whole.line_block(0), 0);
-        compare(&rt, whole.line_block(4), 1);
-        compare(
-            &rt,
-            whole.line_points(4) == [Point { x: 10, y: 0 }, Point { x: 10, y: 10 }].as_slice(),
-            true,
-        );
-    }
-    Ok(())
-}
 
 /// Ten points that are among those of the long line.
-const FEW: [(i32, i32); 10] = [
+static FEW: &[(i32, i32)] = &[
     (0, 0),
     (2, 0),
     (4, 0),
@@ -48,68 +18,63 @@ const FEW: [(i32, i32); 10] = [
     (18, 0),
 ];
 
-/// A line of the given number of points, no two of which are equal, after one line through ten of them.
-fn long_drawing(alloc: Global, count: i32) -> Result<Drawing, DrawKind> {
-    let mut maker = DrawingMaker::new(alloc, b"", 2_047);
-    maker.add_block(1)?;
-    maker.add_line(points_of(alloc, &FEW)?)?;
+/// Returns that many points: row after row, no two of which are equal, or to and fro between two places.
+fn long_line(alloc: Global, count: i32, to_and_fro: bool) -> Result<Points, Memory> {
     let mut points = Points::new(alloc);
     for i in 0..count {
-        points.push(Point {
-            x: i % 1_000,
-            y: i / 1_000,
-        })?;
+        let (x, y) = if to_and_fro {
+            (i % 2, 0)
+        } else {
+            (i % 1_000, i / 1_000)
+        };
+        points.push(Point { x, y })?;
     }
-    maker.add_line(points)?;
+    Ok(points)
+}
+
+/// Adds a line through ten points, and a long one.
+fn add_lines(
+    alloc: Global,
+    maker: &mut DrawingMaker,
+    count: i32,
+    to_and_fro: bool,
+) -> Result<(), DrawKind> {
+    maker.add_block(1)?;
+    maker.add_line(points_of(alloc, FEW)?)?;
+    maker.add_line(long_line(alloc, count, to_and_fro)?)
+}
+
+/// Returns the drawing of a line through ten points and a long one.
+fn long_drawing(alloc: Global, count: i32, to_and_fro: bool) -> Result<Drawing, DrawKind> {
+    let mut maker = DrawingMaker::new(alloc, b"", 2_047);
+    add_lines(alloc, &mut maker, count, to_and_fro)?;
     maker.finish()
 }
 
-#[test]
-fn sections_have_so_many_points(rt: HostRuntime) -> Result<(), Fail> {
-    let most = long_drawing(rt.alloc(), 65_536 - 10 - 17)
-        .ok()
-        .ok_or("a drawing")?;
-    let whole = join(rt.alloc(), &most).ok().ok_or("no memory")?;
-    compare(&rt, whole.line_count(), 19);
-    let more = long_drawing(rt.alloc(), 65_536 - 10 - 16)
-        .ok()
-        .ok_or("a drawing")?;
-    compare(
-        &rt,
-        join(rt.alloc(), &more).err() == Some(DrawKind::TooManyPoints),
-        true,
-    );
-    Ok(())
+/// Returns the number of sections of a drawing.
+fn section_count(alloc: Global, drawing: Result<Drawing, DrawKind>) -> Result<u32, DrawKind> {
+    let whole = join(alloc, &drawing?)?;
+    Ok(whole.line_count())
 }
 
-/// A line to and fro, such that each point inside it is listed again.
-fn shuttle(alloc: Global, count: i32) -> Result<Drawing, DrawKind> {
-    let mut maker = DrawingMaker::new(alloc, b"", 2_047);
-    maker.add_block(1)?;
-    let mut points = Points::new(alloc);
-    for i in 0..count {
-        points.push(Point { x: i % 2, y: 0 })?;
-    }
-    maker.add_line(points)?;
-    maker.finish()
-}
-
-/// Numbers of points with too many sections between them.
-const TOO_MANY: [i32; 2] = [1_026, 65_536];
+/// The number of points of the long line, whether it goes to and fro, and the number of sections. The long line shares ten
+/// points with the other, eight of which are inside that one; of the line to and fro each point inside is listed again.
+static COUNTS: &[(i32, bool, Result<u32, DrawKind>)] = &[
+    // 17 points end one section and begin the next.
+    (65_536 - 10 - 17, false, Ok(19)),
+    (65_536 - 10 - 16, false, Err(DrawKind::TooManyPoints)),
+    (1_024, true, Ok(1_024)),
+    (1_025, true, Err(DrawKind::TooManyLines)),
+    // Too many lines come before too many points of the sections, and too many points of the lines before both.
+    (65_536 - 10, true, Err(DrawKind::TooManyLines)),
+    (65_536 - 9, true, Err(DrawKind::TooManyPoints)),
+];
 
 #[test]
-fn a_drawing_has_so_many_sections(rt: HostRuntime) -> Result<(), Fail> {
-    let most = shuttle(rt.alloc(), 1_025).ok().ok_or("a drawing")?;
-    let whole = join(rt.alloc(), &most).ok().ok_or("no memory")?;
-    compare(&rt, whole.line_count(), 1_024);
-    // Too many lines come before too many points.
-    for count in &TOO_MANY {
-        let more = shuttle(rt.alloc(), *count).ok().ok_or("a drawing")?;
-        compare(
-            &rt,
-            join(rt.alloc(), &more).err() == Some(DrawKind::TooManyLines),
-            true,
-        );
+fn sections_have_so_many_lines_and_points(rt: HostRuntime) {
+    for (count, to_and_fro, wanted) in COUNTS {
+        let drawing = long_drawing(rt.alloc(), *count, *to_and_fro);
+        let found = section_count(rt.alloc(), drawing);
+        compare_row(&rt, (*count, *to_and_fro), found == *wanted, true);
     }
-    Ok(())
 }

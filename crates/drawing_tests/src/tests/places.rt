@@ -1,9 +1,13 @@
 use super::comparisons::compare_row;
-use super::sections::{Places, lines};
+use crate::points_of;
 use MeetingKind::{BesideSegment, ClosePoints, Crossing, OnSegment, Overlap, Repeat};
 use design_model::{Memory, Point};
 use line_meetings::{Meeting, MeetingKind, find_meetings};
+use line_sections::Line;
 use std::alloc::Global;
+
+/// Lines, each by its block and its places.
+type Places = &'static [(u32, &'static [(i32, i32)])];
 
 /// A meeting: its kind, its two lines, and its point.
 type Wanted = (MeetingKind, usize, usize, (i32, i32));
@@ -11,7 +15,7 @@ type Wanted = (MeetingKind, usize, usize, (i32, i32));
 /// The gap, lines, and the meetings that are found.
 type Case = (u16, Places, &'static [Wanted]);
 
-const CASES: [Case; 9] = [
+static CASES: &[Case] = &[
     // Two lines that share an end.
     (
         2,
@@ -78,16 +82,33 @@ const CASES: [Case; 9] = [
     ),
 ];
 
+/// Returns these lines.
+fn lines(alloc: Global, places: Places) -> Result<Vec<Line>, Memory> {
+    let mut lines = Vec::new(alloc);
+    for (block, places) in places {
+        lines.push(Line::new(*block, points_of(alloc, places)?))?;
+    }
+    Ok(lines)
+}
+
 /// Returns whether the lines meet as a row says.
 fn is_met(alloc: Global, (gap, drawn, wanted): &Case) -> Result<bool, Memory> {
     let drawn = lines(alloc, *drawn)?;
     let found = find_meetings(alloc, &drawn, *gap)?;
-    for (meeting, one) in found.as_slice().iter().zip(wanted.iter()) {
+    Ok(are_wanted(found.as_slice(), *wanted))
+}
+
+/// Returns whether meetings are the expected ones.
+fn are_wanted(found: &[Meeting], wanted: &[Wanted]) -> bool {
+    for index in 0..wanted.len() {
+        let (Some(meeting), Some(one)) = (found.get(index), wanted.get(index)) else {
+            return false;
+        };
         if !is_wanted(meeting, one) {
-            return Ok(false);
+            return false;
         }
     }
-    Ok(found.len() == wanted.len())
+    found.len() == wanted.len()
 }
 
 /// Returns whether a meeting has this kind, these two lines and this point.
@@ -100,8 +121,9 @@ fn is_wanted(meeting: &Meeting, (kind, line, other, (x, y)): &Wanted) -> bool {
 
 #[test]
 fn each_meeting_is_found_and_no_other(rt: HostRuntime) {
-    for (index, case) in CASES.iter().enumerate() {
-        compare_row(&rt, index, is_met(rt.alloc(), case).ok(), Some(true));
+    for case in CASES {
+        let is = is_met(rt.alloc(), case);
+        compare_row(&rt, (case.0, case.1), is.ok(), Some(true));
     }
 }
 

@@ -6,7 +6,7 @@ use std::alloc::Global;
 type Ends = ((i32, i32), (i32, i32));
 
 /// Numbers of samples, the number of their lines, and the last line.
-const LARGER: [(u32, u32, Ends); 5] = [
+static LARGER: &[(u32, u32, Ends)] = &[
     (1, 16, ((122, 101), (200, 232))),
     (14, 710, ((1512, 1445), (1428, 1532))),
     (15, 4, ((125, 11), (100, 145))),
@@ -16,7 +16,7 @@ const LARGER: [(u32, u32, Ends); 5] = [
 
 #[test]
 fn larger_samples_have_so_many_lines(rt: HostRuntime) {
-    for (number, count, last) in &LARGER {
+    for (number, count, last) in LARGER {
         let found = count_and_last(rt.alloc(), *number);
         compare_row(&rt, *number, found, Some((*count, *last)));
     }

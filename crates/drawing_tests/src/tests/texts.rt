@@ -1,16 +1,13 @@
-use super::comparisons::{compare, compare_row};
-use super::drawings::compare_squares;
-use design_model::{Bytes, MAX_FILE};
-use drawing_text::{
-    DrawFault, LinesRead, print_drawing, read_drawing, read_lines, read_with_lines,
-};
+use super::comparisons::compare_row;
+use super::drawings::has_squares;
+use design_model::{Bytes, MAX_FILE, Memory};
+use drawing_text::{DrawFault, print_drawing, read_drawing, read_lines, read_with_lines};
 use line_graph::DrawKind::{
     self, BadHeader, BadNumber, BadWord, EmptyBlock, FewPoints, NoBlock, OutOfRange, RepeatedPoint,
     TooManyBlocks, TooManyLines, TooManyPoints, TooMuchCost,
 };
 use line_graph::Drawing;
 use std::alloc::Global;
-use std::test::Fail;
 use test_values::repeated;
 
 fn drawing(alloc: Global, text: &[u8]) -> Result<Drawing, DrawFault> {
@@ -47,39 +44,45 @@ color 9
 line 300 0 330 0 330 30 300 30 300 0
 ";
 
+/// Returns whether a text is read, and printed as the second one.
+fn is_printed(alloc: Global, text: &str, wanted: &str) -> bool {
+    let Ok(d) = drawing(alloc, text.as_bytes()) else {
+        return false;
+    };
+    match printed(alloc, &d) {
+        Some(text) => text.as_slice() == wanted.as_bytes(),
+        None => false,
+    }
+}
+
 #[test]
-fn a_drawing_of_two_blocks_is_read_and_printed_again(rt: HostRuntime) -> Result<(), Fail> {
-    let d = drawing(rt.alloc(), SQUARES.as_bytes())
-        .ok()
-        .ok_or("two squares")?;
-    let text = printed(rt.alloc(), &d).ok_or("no text")?;
-    compare(&rt, text.as_slice(), SQUARES.as_bytes());
-    compare_squares(&rt, &d);
-    Ok(())
+fn a_drawing_of_two_blocks_is_read_and_printed_again(rt: HostRuntime) {
+    let found = match drawing(rt.alloc(), SQUARES.as_bytes()) {
+        Ok(d) => has_squares(&d) && is_printed(rt.alloc(), SQUARES, SQUARES),
+        Err(_) => false,
+    };
+    compare_row(&rt, SQUARES, found, true);
 }
 
 /// Spellings of one drawing.
-const SPELLINGS: [&str; 3] = [
+static SPELLINGS: &[&str] = &[
     "redwork 1\nname Rose\ncolor 7\nline 0 0 5 5",
     "\n# a rose\n\tredwork \t 1\r\nname Rose\r\n  # red\r\ncolor 007\r\nline -0 0 05 5\r\n",
     "redwork 1\nstep 25\nname Rose\n\ncolor 7\nline 0 0 5 5\n\n#\n \n",
 ];
 
+const SPELLED: &str = "redwork 1\nname Rose\nstep 25\ncolor 7\nline 0 0 5 5\n";
+
 #[test]
-fn texts_of_any_spelling_are_read(rt: HostRuntime) -> Result<(), Fail> {
-    for text in &SPELLINGS {
-        let d = drawing(rt.alloc(), text.as_bytes())
-            .ok()
-            .ok_or("a drawing")?;
-        let plain = printed(rt.alloc(), &d).ok_or("no text")?;
-        let wanted = "redwork 1\nname Rose\nstep 25\ncolor 7\nline 0 0 5 5\n";
-        compare_row(&rt, *text, plain.as_slice(), wanted.as_bytes());
+fn texts_of_any_spelling_are_read(rt: HostRuntime) {
+    for text in SPELLINGS {
+        let is = is_printed(rt.alloc(), *text, SPELLED);
+        compare_row(&rt, *text, is, true);
     }
-    Ok(())
 }
 
 /// Texts, and the line and the kind of their first fault.
-const FAULTS: [(&str, u32, DrawKind); 27] = [
+static FAULTS: &[(&str, u32, DrawKind)] = &[
     // Faults of a head.
     ("", 1, BadHeader),
     ("# a\n\n", 3, BadHeader),
@@ -113,7 +116,7 @@ const FAULTS: [(&str, u32, DrawKind); 27] = [
 
 #[test]
 fn the_first_fault_of_a_text_is_told_with_its_line(rt: HostRuntime) {
-    for (text, number, kind) in &FAULTS {
+    for (text, number, kind) in FAULTS {
         let found = fault(rt.alloc(), text.as_bytes());
         compare_row(&rt, *text, found == (*number, Some(*kind)), true);
     }
@@ -128,7 +131,16 @@ const ONE_LINE: &str = "redwork 1\nstep 2047\ncolor 1\nline";
 const SHORT_STEPS: &str = "redwork 1\nstep 1\ncolor 1\n";
 
 /// A head, lines or points and their number, an end, and the first fault of that text.
-const MOST: [(&str, &str, u32, &str, u32, Option<DrawKind>); 9] = [
+type MostCase = (
+    &'static str,
+    &'static str,
+    u32,
+    &'static str,
+    u32,
+    Option<DrawKind>,
+);
+
+static MOST: &[MostCase] = &[
     (HEAD, "color 1\nline 0 0 1 0\n", 255, "", 0, None),
     (
         HEAD,
@@ -168,47 +180,54 @@ const MOST: [(&str, &str, u32, &str, u32, Option<DrawKind>); 9] = [
     ),
 ];
 
-#[test]
-fn a_drawing_has_so_many_blocks_lines_points_and_steps(rt: HostRuntime) -> Result<(), Fail> {
-    for (head, middle, times, end, number, kind) in &MOST {
-        let (head, middle, end) = (head.as_bytes(), middle.as_bytes(), end.as_bytes());
-        let text = repeated(rt.alloc(), head, middle, *times, end)?;
-        let found = fault(rt.alloc(), text.as_slice());
-        compare_row(&rt, (*times, middle), found == (*number, *kind), true);
-    }
-    Ok(())
+/// Returns whether the text of a row has its first fault.
+fn is_at_limit(alloc: Global, case: &MostCase) -> Result<bool, Memory> {
+    let (head, middle, times, end, number, kind) = *case;
+    let text = repeated(
+        alloc,
+        head.as_bytes(),
+        middle.as_bytes(),
+        times,
+        end.as_bytes(),
+    )?;
+    Ok(fault(alloc, text.as_slice()) == (number, kind))
 }
 
 #[test]
-fn the_longest_text_is_read_in_one_pass(rt: HostRuntime) -> Result<(), Fail> {
+fn a_drawing_has_so_many_blocks_lines_points_and_steps(rt: HostRuntime) {
+    for case in MOST {
+        let is = is_at_limit(rt.alloc(), case);
+        compare_row(&rt, (case.0, case.1, case.2), is.ok(), Some(true));
+    }
+}
+
+/// Returns whether a text of nearly the greatest length is read.
+fn is_longest_read(alloc: Global) -> Result<bool, Memory> {
     let head = b"redwork 1\ncolor 1\nline 0 0 1 0\n";
-    let text = repeated(rt.alloc(), head, b"# sixteen bytes\n", 4_194_301, b"")
-        .ok()
-        .ok_or("no memory")?;
-    compare(&rt, text.len() as u64 > MAX_FILE - 32, true);
-    compare(&rt, fault(rt.alloc(), text.as_slice()) == (0, None), true);
-    Ok(())
+    let text = repeated(alloc, head, b"# sixteen bytes\n", 4_194_301, b"")?;
+    Ok(text.len() as u64 > MAX_FILE - 32 && fault(alloc, text.as_slice()) == (0, None))
 }
 
 #[test]
-fn lines_are_read_as_they_are_drawn(rt: HostRuntime) -> Result<(), Fail> {
-    let text = b"redwork 3\ncolor 1\nline 0 0 9 0 9 9\nline 9 -9 9 0\nend 5 5\n";
-    let drawn = read_lines(rt.alloc(), text).ok().ok_or("lines")?;
-    compare(&rt, drawn.drawing.line_count(), 2);
-    compare(&rt, drawn.ends.len(), 1);
-    compare(&rt, fault(rt.alloc(), text).0, 5);
-    Ok(())
+fn the_longest_text_is_read_in_one_pass(rt: HostRuntime) {
+    let is = is_longest_read(rt.alloc());
+    compare_row(&rt, "longest text", is.ok(), Some(true));
 }
 
-fn with_lines(alloc: Global, text: &[u8]) -> Option<LinesRead> {
-    if text.len() as u64 > MAX_FILE {
-        return None;
-    }
-    read_with_lines(alloc, text).ok()
+const DRAWN: &[u8] = b"redwork 3\ncolor 1\nline 0 0 9 0 9 9\nline 9 -9 9 0\nend 5 5\n";
+
+#[test]
+fn lines_are_read_as_they_are_drawn(rt: HostRuntime) {
+    let found = match read_lines(rt.alloc(), DRAWN) {
+        Ok(drawn) => (drawn.drawing.line_count(), drawn.ends.len()),
+        Err(_) => (0, 0),
+    };
+    compare_row(&rt, "lines and ends", found, (2, 1));
+    compare_row(&rt, "fault", fault(rt.alloc(), DRAWN).0, 5);
 }
 
 /// Texts, the number of lines that are drawn, of the lines of the drawing, and of its ends.
-const TOGETHER: [(&str, (u32, u32, usize)); 3] = [
+static TOGETHER: &[(&str, (u32, u32, usize))] = &[
     (
         "redwork 1\ncolor 1\nline 0 0 9 0 9 9\nline 9 -9 9 0\n",
         (2, 2, 0),
@@ -223,16 +242,25 @@ const TOGETHER: [(&str, (u32, u32, usize)); 3] = [
     ),
 ];
 
-#[test]
-fn a_drawing_and_its_lines_are_read_together(rt: HostRuntime) -> Result<(), Fail> {
-    for (text, wanted) in &TOGETHER {
-        let read = with_lines(rt.alloc(), text.as_bytes()).ok_or("lines")?;
-        let found = (
+/// Returns the number of lines that are drawn, of the lines of the drawing, and of its ends, if the text is read.
+fn counts(alloc: Global, text: &[u8]) -> Option<(u32, u32, usize)> {
+    if text.len() as u64 > MAX_FILE {
+        return None;
+    }
+    match read_with_lines(alloc, text) {
+        Ok(read) => Some((
             read.drawn.drawing.line_count(),
             read.drawing.line_count(),
             read.drawing.ends().len(),
-        );
-        compare(&rt, found, *wanted);
+        )),
+        Err(_) => None,
     }
-    Ok(())
+}
+
+#[test]
+fn a_drawing_and_its_lines_are_read_together(rt: HostRuntime) {
+    for (text, wanted) in TOGETHER {
+        let found = counts(rt.alloc(), text.as_bytes());
+        compare_row(&rt, *text, found, Some(*wanted));
+    }
 }
