@@ -1,6 +1,6 @@
 -- Worked values of entries of a store in memory, by their index, and of the room of a name.
-use Rattle.std.proofs.Common.{◌≡◌, ℕ, ◌<◌, List, [], ◌∷◌, ◌++◌, Option, Some, None, slice_get, slice_set, refl, ap, arith}
-use Rattle.outside_io.proofs.Names.{EntryValue, entry_in, with_entry, empty_store, room_in}
+use Rattle.std.proofs.Common.{◌≡◌, ℕ, List, [], ◌∷◌, ◌++◌, Option, Some, None, slice_set, refl, ap, arith}
+use Rattle.outside_io.proofs.Names.{EntryValue, entry_in, with_entry, empty_store}
 use Rattle.outside_io.specs.EntryIndexes.{HasNoEntry, IsEntryIndex}
 use Rattle.outside_io.specs.MemStores.{room_raised, rooms_of}
 

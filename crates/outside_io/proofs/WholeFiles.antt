@@ -48,5 +48,6 @@ pub part_failed : (name bytes buffer : List ℕ) (offset limit : ℕ) (old mid n
     → ReadsWholeFile name limit old new result
 part_failed name bytes buffer offset limit old mid new why (Ok _) never same stays begins place reads = absurd never
 part_failed name bytes buffer offset limit old mid new why (Err f) is same stays begins place reads =
-    subst (λ (f : GetFault). ReadsWholeFile name limit old new (Err f)) (sym is) (part_fails name bytes buffer limit old mid new why same stays begins
-    (subst (λ (at : ℕ). ReadsNextPart name at limit mid new buffer (Err why)) place reads))
+    let here = subst (λ (at : ℕ). ReadsNextPart name at limit mid new buffer (Err why)) place reads in
+    subst (λ (f : GetFault). ReadsWholeFile name limit old new (Err f)) (sym is)
+    (part_fails name bytes buffer limit old mid new why same stays begins here)

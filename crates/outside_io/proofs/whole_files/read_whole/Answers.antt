@@ -18,6 +18,12 @@ loop-bytes-preserved g c =
       begins = λ told is. subst (λ (b : List ℕ). IsContentPrefix (told c.args.name.now) b) (sym added) (next.on told (kept.same ∙ is));
     }
 
+pub loop-bytes-smaller : goal.loop-bytes-smaller
+loop-bytes-smaller g c =
+    let reads = c.in_ok-count.ensures.reads in
+    let added : c.append.new.self ≡ c.loop-bytes.bytes ++ take c.in_ok-count.count c.read_next.new.buffer = search rules in
+    grind (arith, nat_tests, added, length-append, length-take-le, c.len.ensures, reads.1, reads.2, c.if-count-eq0.false)
+
 pub returns-in_err-count-clause-reads : goal.returns-in_err-count-clause-reads
 returns-in_err-count-clause-reads g c =
     let kept = c.loop-bytes.invariant in
