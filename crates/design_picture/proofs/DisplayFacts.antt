@@ -1,5 +1,5 @@
 -- The constants of pictures of designs, and values at their bounds. Lengths are in tenths of a millimetre.
-use Rattle.std.proofs.Common.{◌≡◌, pos, negsuc, true, false, List, [], ◌∷◌, Some, None, codes, ◌++◌, map, refl}
+use Rattle.std.proofs.Common.{◌≡◌, ℕ, pos, negsuc, true, false, List, [], ◌∷◌, Some, None, codes, ◌++◌, map, refl}
 use Rattle.std.specs.Fmt.{digits}
 use Rattle.design_picture.proofs.Names.{DesignValue, strokes_of}
 use Rattle.design_picture.proofs.PictureFacts.{point, sewn}
@@ -51,17 +51,19 @@ pub known_radii : map (λ pass. bow_of (record { pass = pass; arrow = false; fro
 unfolding square_of
 known_radii = refl
 
+abbrev at : ℕ → ℕ → Point
+at x y = point (pos x) (pos y)
+
 abbrev stitch : Point → Point → PointPair
 stitch from to = record { from = from; to = to }
 
 -- To the right and down a column a stitch leads forward, to the left and up it leads back, and one on a point does neither.
-pub known_forward : map is_forward (stitch (point (pos 0) (pos 9)) (point (pos 1) (pos 2)) ∷ stitch (point (pos 1) (pos 2)) (point (pos 1) (pos 3))
-    ∷ stitch (point (pos 1) (pos 2)) (point (pos 0) (pos 9)) ∷ stitch (point (pos 1) (pos 3)) (point (pos 1) (pos 2))
-    ∷ stitch (point (pos 1) (pos 3)) (point (pos 1) (pos 3)) ∷ []) ≡ true ∷ true ∷ false ∷ false ∷ false ∷ []
+pub known_forward : map is_forward (stitch (at 0 9) (at 1 2) ∷ stitch (at 1 2) (at 1 3) ∷ stitch (at 1 2) (at 0 9)
+    ∷ stitch (at 1 3) (at 1 2) ∷ stitch (at 1 3) (at 1 3) ∷ []) ≡ true ∷ true ∷ false ∷ false ∷ false ∷ []
 known_forward = refl
 
-pub known_kept : (forward_stitch (stitch (point (pos 5) (pos 0)) (point (pos 4) (pos 0))) ≡ stitch (point (pos 4) (pos 0)) (point (pos 5) (pos 0)))
-    × (forward_stitch (stitch (point (pos 4) (pos 0)) (point (pos 5) (pos 0))) ≡ stitch (point (pos 4) (pos 0)) (point (pos 5) (pos 0)))
+pub known_kept : (forward_stitch (stitch (at 5 0) (at 4 0)) ≡ stitch (at 4 0) (at 5 0))
+    × (forward_stitch (stitch (at 4 0) (at 5 0)) ≡ stitch (at 4 0) (at 5 0))
 known_kept = (refl, refl)
 
 -- Three passes are counted in each direction, and four are three.
@@ -74,12 +76,12 @@ known_passes = (refl, refl, refl, refl, refl)
 
 -- A stitch sewn once forward and twice back was sewn three times, whichever way the next one leads.
 pub known_earlier : map (earlier_passes (passes_by (λ kept. Some (record { forward = 1; back = 2 }))))
-    (stitch (point (pos 0) (pos 9)) (point (pos 1) (pos 2)) ∷ stitch (point (pos 1) (pos 2)) (point (pos 0) (pos 9)) ∷ []) ≡ 3 ∷ 3 ∷ []
+    (stitch (at 0 9) (at 1 2) ∷ stitch (at 1 2) (at 0 9) ∷ []) ≡ 3 ∷ 3 ∷ []
 known_earlier = refl
 
 -- One more pass is counted of that stitch alone.
-pub known_more : map (passes_with (passes_by (λ kept. None)) (stitch (point (pos 0) (pos 9)) (point (pos 1) (pos 2))))
-    (stitch (point (pos 0) (pos 9)) (point (pos 1) (pos 2)) ∷ stitch (point (pos 1) (pos 2)) (point (pos 0) (pos 9)) ∷ []) ≡ 1 ∷ 0 ∷ []
+pub known_more : map (passes_with (passes_by (λ kept. None)) (stitch (at 0 9) (at 1 2)))
+    (stitch (at 0 9) (at 1 2) ∷ stitch (at 1 2) (at 0 9) ∷ []) ≡ 1 ∷ 0 ∷ []
 known_more = refl
 
 -- A design of 5 mm by 20.1 mm.

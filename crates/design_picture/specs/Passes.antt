@@ -29,12 +29,16 @@ abbrev pub passes_toward : Bool → Passes → ℕ
 passes_toward forward passes =
     if forward then min passes.forward MAX_PASSES else min passes.back MAX_PASSES
 
+-- A number of passes and one more, as far as they are distinguished.
+abbrev pub one_more : ℕ → ℕ
+one_more passes = min (passes + 1) MAX_PASSES
+
 -- The passes with one more forward or back.
 abbrev pub with_pass : Bool → Passes → Passes
 with_pass forward passes =
     if forward
-    then record { forward = min (passes_toward forward passes + 1) MAX_PASSES; back = passes.back }
-    else record { forward = passes.forward; back = min (passes_toward forward passes + 1) MAX_PASSES }
+    then record { forward = one_more (passes_toward forward passes); back = passes.back }
+    else record { forward = passes.forward; back = one_more (passes_toward forward passes) }
 
 -- How often each stitch was sewn in its own direction, by what is kept of the one that leads
 -- forward.
@@ -49,4 +53,4 @@ earlier_passes passes stitch = passes stitch + passes (turned_stitch stitch)
 -- The passes of each stitch after one more.
 abbrev pub passes_with : (PointPair → ℕ) → PointPair → PointPair → ℕ
 passes_with passes stitch other =
-    if is_same_stitch stitch other then min (passes stitch + 1) MAX_PASSES else passes other
+    if is_same_stitch stitch other then one_more (passes stitch) else passes other
