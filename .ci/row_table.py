@@ -409,6 +409,8 @@ row_of_bad_design("dst", 512 + 3 * 247, "point out of range",
 # EXP: 127 times 237 is above 30,000
 row_of_bad_design("exp", 0, "control code not known", bytes.fromhex("80030000"))
 row_of_bad_design("exp", 2, "control code not known", bytes.fromhex("0000 80ff0000"))
+for control in (0x00, 0x03, 0x05, 0x08, 0x81, 0xFF):
+    row_of_bad_design("exp", 2, "control code not known", bytes([0, 0, 0x80, control, 0, 0]), few=True)
 row_of_bad_design("exp", 2 * 236, "point out of range", bytes([127, 0]) * 237)
 row_of_bad_design("exp", 2 * 236, "point out of range", bytes([0, 129]) * 237)
 # 127 times 259 is above 32,767, and a jump lies within it
@@ -417,14 +419,20 @@ row_of_bad_design("exp", 4 * 258, "point out of range", bytes.fromhex("80047f00"
 row_of_bad_design("pec", 0, "signature not known", b"")
 row_of_bad_design("pec", 0, "signature not known", b"#PE")
 row_of_bad_design("pec", 0, "signature not known", b"#PES0001" + BLOCK)
+row_of_bad_design("pec", 0, "signature not known", b"#PAC0001", few=True)
 row_of_bad_design("pec", 4, "file too short", b"#PEC")
+row_of_bad_design("pec", 8, "file too short", b"#PEC0001", few=True)
 row_of_bad_design("pec", 535, "file too short", b"#PEC0001" + BLOCK[1:])
 row_of_bad_design("pec", 536 + 4 * 14, "point out of range", b"#PEC0001" + BLOCK + bytes.fromhex("87ff8000") * 15)
 row_of_bad_design("pec", 536 + 4 * 16, "point out of range", b"#PEC0001" + BLOCK + bytes.fromhex("97ff9000") * 17)
 # PES: the offset of the block is in 32 bits after the signature
 row_of_bad_design("pes", 0, "signature not known", b"")
 row_of_bad_design("pes", 0, "signature not known", b"#PEC0001" + BLOCK)
+row_of_bad_design("pes", 0, "signature not known", b"#PAC0001", few=True)
+row_of_bad_design("pes", 0, "signature not known", b"#PE", few=True)
+row_of_bad_design("pes", 8, "file too short", b"#PES0001", few=True)
 row_of_bad_design("pes", 11, "file too short", b"#PES0001\x0c\0\0")
+row_of_bad_design("pes", 12, "file too short", b"#PES0001\xff\xff\xff\xff", few=True)
 row_of_bad_design("pes", 12 + 527, "file too short", b"#PES0001\x0c\0\0\0" + BLOCK[1:])
 row_of_bad_design("pes", 12 + 528, "file too short", b"#PES0001\xff\xff\xff\xff" + BLOCK)
 row_of_bad_design("pes", 12 + 528 + 4 * 14, "point out of range", b"#PES0001\x0c\0\0\0" + BLOCK +
@@ -451,6 +459,29 @@ row_of_bad_design("lst", 31, "point out of range", lst("block 1", "needle 0 -999
 row_of_bad_design("lst", 42, "point out of range", lst("block 1", "needle 0 0", "float 0 30001"))
 row_of_bad_design("lst", 42, "file too short", lst("block 1", "needle 0 0")[:-4])
 row_of_bad_design("lst", 45, "file too short", lst("block 1", "needle 0 0")[:-1])
+for offset, fault, content in [
+        (27, "file too short", "a first line without an end"), (0, "signature not known", "stitch-list 1 \n"),
+        (0, "signature not known", "redwork 1\n"), (14, "file too short", "stitch-list 1\n"),
+        (14, "control code not known", "stitch-list 1\nblock 5\n"),
+        (14, "control code not known", "stitch-list 1\nlabel [a ]\n"),
+        (14, "control code not known", "stitch-list 1\nlabel [Roses of Damascus]\n"),
+        (23, "control code not known", "stitch-list 1\nlabel []\nneedle 99999 0\n")]:
+    row_of_bad_design("lst", offset, fault, content, few=True)
+# these lines follow the three of 31 bytes; a line that is decided has at most 32 bytes
+THREE_LINES = text("stitch-list 1", "label []", "block 5")
+for offset, fault, lines in [
+        (31, "file too short", ""), (46, "file too short", "needle 0 0\nneed"), (34, "file too short", "end"),
+        (31, "control code not known", "trim\nend\n"), (31, "control code not known", "float 0 0\nend\n"),
+        (47, "control code not known", "needle 0 0\ntrim\ntrim\nend\n"),
+        (42, "control code not known", "needle 0 0\nneedle 0 2048\nend\n"),
+        (31, "control code not known", "needle -0 0\nend\n"), (31, "control code not known", "needle 0 01\nend\n"),
+        (31, "point out of range", "needle 30001 0\nend\n"),
+        (31, "point out of range", "needle 0 12345678901234567890123\n"),
+        (31, "control code not known", "needle 0 123456789012345678901234\n"),
+        (64, "file too short", "needle 0 123456789012345678901234"), (31, "control code not known", "block 256\nend\n"),
+        (31, "control code not known", "label []\nend\n"), (31, "control code not known", "end\r\n"),
+        (35, "control code not known", "end\n\n")]:
+    row_of_bad_design("lst", offset, fault, THREE_LINES + lines, few=True)
 
 # A million commands and one more. In a list a loose needle has room 1 and a trim 4.
 MILLION = 1000000
@@ -690,6 +721,40 @@ row("three blocks of PEC have four thumbnails", {"a.lst": lst(*THREE, label="Thr
     done("stitch convert a.lst b.pes", "needles 6 trims 0 stops 2\n", {"b.pes": pes(*THREE, label="Three")}),
     done("stitch convert b.pes c.lst", "needles 6 trims 0 stops 2\n", {"c.lst": lst(*THREE, label="Three")}))
 assert ROWS[-1].steps[0].after["b.pec"][-913:] == b"\xff" + bytes(912)
+
+# The square's files have 512, 528 and 550 bytes before their records, and PEC has 456 after them.
+row("the square in five formats", {"a.lst": lst(*SQUARE_ACTS)},
+    *[done(f"stitch convert a.lst b.{ending}", "needles 5 trims 1 stops 0\n", {f"b.{ending}": make(*SQUARE_ACTS)})
+      for ending, make in MAKERS.items()],
+    *[done(f"stitch convert b.{ending} c.lst", "needles 5 trims 1 stops 0\n", {
+        "c.lst": lst("block 5" if ending in ("pec", "pes", "lst") else "block 1", *SQUARE_ACTS[1:])})
+      for ending in MAKERS])
+SQUARES = {name: content for step in ROWS[-1].steps for name, content in step.after.items()}
+assert SQUARES["b.exp"] == bytes.fromhex("0000 1e00 00e2 e200 001e 80800700")
+assert SQUARES["b.dst"][512:] == bytes.fromhex("000003 000503 005003 000a03 00a003 824183 828283 824183 0000f3")
+SQUARE_BODY = bytes.fromhex("0000 1e00 001e 6200 0062 a000 a000 ff")
+assert SQUARES["b.pec"][536:] == SQUARE_BODY + bytes(456) and SQUARES["b.pes"][550:] == SQUARE_BODY + bytes(456)
+
+# Lists are read as they are written. The last label has brackets, and a block may have any thread.
+ROSE = text("stitch-list 1", "label [Rose of ] [ mas]", "block 0", "end")
+row("lists with nothing, a far needle, far floats, and brackets in a label", {
+    "a.lst": lst("block 5"), "b.lst": lst("block 5", "needle -30000 30000"),
+    "c.lst": lst("block 5", "needle 0 0", "float 400 0"), "d.lst": lst("block 5", "needle 0 0", "float 0 2048"), "e.lst": ROSE},
+    *[done(f"stitch convert {name}.lst f.lst", f"needles {needles} trims 0 stops 0\n", {"f.lst": SameAs(f"{name}.lst")})
+      for name, needles in zip("abcde", (0, 1, 2, 2, 0))])
+
+# As many blocks as a list may have, and as many commands as may be written: a needle has room 1 and a trim 4.
+row("a list of 255 blocks and one of 400,000 commands", {
+    "a.lst": lst("block 5", *["block 7"] * 254), "b.lst": lst("block 5", *["needle 0 0", "trim"] * 200000)},
+    done("stitch convert a.lst c.lst", "needles 0 trims 0 stops 254\n", {"c.lst": SameAs("a.lst")}),
+    done("stitch convert b.lst d.lst", "needles 200000 trims 200000 stops 0\n", {"d.lst": SameAs("b.lst")}))
+
+# Of a run of jumps the third reads as a trim and a jump.
+row("runs of jumps of DST", {
+    f"a{jumps}.dst": HEAD + bytes.fromhex("000003" + "000083" * jumps + "000003 0000f3") for jumps in (2, 3, 4, 7)},
+    *[done(f"stitch show a{jumps}.dst", text("format dst", "label []", f"commands {commands}", "needles 2", f"trims {trims}",
+                                             "stops 0", "extent 0 0 0 0", "ended yes", "block 1 thread 1 needles 2"))
+      for jumps, commands, trims in ((2, 4, 0), (3, 6, 1), (4, 7, 1), (7, 10, 1))])
 
 # Two floats of one jump each are a stitch, and twice a jump and a stitch.
 FLOATS = ["block 1", "needle 0 0", "float 10 0", "float 20 -5"]

@@ -43,12 +43,3 @@ pub fn compare_reread<F: Format>(
     compare_large(rt, &loaded, label, threads);
     Ok(())
 }
-
-/// Returns a design of stops alone.
-pub fn stops(alloc: Global, count: u32) -> Result<Design, ModelFault> {
-    let mut design = Design::new(alloc);
-    for _ in 0..count {
-        design.push(Command::Stop)?;
-    }
-    Ok(design)
-}

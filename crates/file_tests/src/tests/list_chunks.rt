@@ -5,6 +5,7 @@ use super::lists::{HEAD, SQUARE};
 use design_model::MAX_FILE;
 use format_traits::Format;
 use format_traits::ReadFault::{self, Control, Range, Short, Signature};
+use std::process::Abort;
 use std::test::Fail;
 use stitch_text::List;
 use test_values::repeated;
@@ -58,19 +59,30 @@ fn feed_pieces(list: &mut List, text: &[u8], size: usize) -> Result<usize, Fail>
     Ok(count)
 }
 
+/// Compares what a text fed in chunks of each size is told of: the number of commands, of bytes, and the refusal.
+fn compare_pieces(
+    rt: &impl Abort,
+    list: &mut List,
+    text: &[u8],
+    wanted: (usize, u64),
+    fault: Option<ReadFault>,
+) -> Result<(), Fail> {
+    for size in &PIECES {
+        let count = feed_pieces(list, text, *size)?;
+        compare_row(rt, *size, (count, list.taken()), wanted);
+        compare_row(rt, *size, list.finish().err(), fault);
+        compare_row(rt, *size, list.taken(), 0);
+    }
+    Ok(())
+}
+
 #[test]
 fn a_text_may_be_fed_in_pieces_of_any_size(rt: HostRuntime) -> Result<(), Fail> {
-    let alloc = rt.alloc();
-    let mut list = List::new(alloc);
+    let mut list = List::new(rt.alloc());
     for (first, lines, times, last, size, count, fault) in &FED {
         let (first, lines, last) = (first.as_bytes(), lines.as_bytes(), last.as_bytes());
-        let text = repeated(alloc, first, lines, *times, last)?;
-        for piece in &PIECES {
-            let found = feed_pieces(&mut list, text.as_slice(), *piece)?;
-            compare_row(&rt, lines, (found, list.taken()), (*count, *size));
-            compare_row(&rt, lines, list.finish().err(), *fault);
-            compare_row(&rt, lines, list.taken(), 0);
-        }
+        let text = repeated(rt.alloc(), first, lines, *times, last)?;
+        compare_pieces(&rt, &mut list, text.as_slice(), (*count, *size), *fault)?;
     }
     Ok(())
 }
@@ -91,15 +103,20 @@ const PREFIXES: [(usize, usize); 12] = [
     (99, 6),
 ];
 
-#[test]
-fn commands_are_there_once_their_lines_have_ended(rt: HostRuntime) -> Result<(), Fail> {
-    let alloc = rt.alloc();
-    let mut list = List::new(alloc);
+/// Compares the number of commands of each first part of the square's list.
+fn compare_prefixes(rt: &impl Abort, list: &mut List) -> Result<(), Fail> {
     for (size, count) in &PREFIXES {
         let text = SQUARE.as_bytes().get(..*size).ok_or("a short square")?;
         list.begin();
-        compare_row(&rt, *size, feed_pieces(&mut list, text, 7)?, *count);
+        compare_row(rt, *size, feed_pieces(list, text, 7)?, *count);
     }
+    Ok(())
+}
+
+#[test]
+fn commands_are_there_once_their_lines_have_ended(rt: HostRuntime) -> Result<(), Fail> {
+    let mut list = List::new(rt.alloc());
+    compare_prefixes(&rt, &mut list)?;
     let loaded = list.finish().ok().ok_or("not read")?;
     compare(&rt, loaded.design.threads(), &[5]);
     Ok(())

@@ -1,16 +1,15 @@
 ghost use Rattle.std.specs.Prelude.{◌≡◌, IsOk, false};
 
-use super::comparisons::{compare, compare_row};
+use super::comparisons::compare_row;
 use super::feeding::{SIZES, compare_parts, filled};
-use super::large_designs::{compare_large, floating, stops};
+use super::large_designs::{compare_large, floating};
 use design_model::{Bytes, Command, MAX_FILE, Memory, Point};
 use format_traits::ReadFault::{self, Range, Short};
-use format_traits::{Fed, Loaded, WriteFault};
+use format_traits::{Fed, Loaded};
 use pec_codec::{BlockReader, read_block, write_block};
 use std::alloc::Global;
 use std::process::Abort;
 use std::test::Fail;
-use test_values::design_of;
 
 /// A reader of blocks, and the number of bytes fed to it.
 #[derive(Drop)]
@@ -29,7 +28,7 @@ impl Counted {
     }
 
     fn begin(&mut self, at: u32) {
-        self.reader.begin(at as u64);
+        self.reader.begin(u64::from(at));
         self.taken = 0;
     }
 
@@ -53,7 +52,7 @@ impl Counted {
 
 /// Reads the block at an offset of a file: at once, and by one reader in chunks of each size.
 fn read(rt: &impl Abort, alloc: Global, bytes: &[u8], at: u32) -> Result<Loaded, ReadFault> {
-    let whole = read_block(alloc, bytes, at as u64);
+    let whole = read_block(alloc, bytes, u64::from(at));
     let mut reader = Counted::new(alloc);
     let (_, block) = bytes.split_at_checked(at as usize).unwrap_or((bytes, &[]));
     for size in &SIZES {
@@ -67,57 +66,10 @@ fn read(rt: &impl Abort, alloc: Global, bytes: &[u8], at: u32) -> Result<Loaded,
     whole
 }
 
-fn at(x: i32, y: i32) -> Command {
-    Command::Stitch(Point { x, y })
-}
-
-/// Returns a block of a blank header and records.
-fn block_of(alloc: Global, records: &[u8]) -> Result<Bytes, Memory> {
-    filled(alloc, b"", b" ", 528, records)
-}
-
-/// Returns a file whose block begins at an offset.
+/// Returns a file whose block begins at an offset, with a blank header and records.
 fn file_of(alloc: Global, start: u32, records: &[u8]) -> Result<Bytes, Memory> {
-    let block = block_of(alloc, records)?;
-    filled(alloc, b"", b"\x07", start, block.as_slice())
-}
-
-#[test]
-fn a_design_of_three_blocks_is_written(rt: HostRuntime) -> Result<(), Fail> {
-    let alloc = rt.alloc();
-    let commands = [
-        at(0, 0),
-        at(62, -63),
-        at(125, -63),
-        Command::Stop,
-        at(125, -63),
-        Command::Stop,
-        at(125, -63),
-    ];
-    let design = design_of(alloc, &commands)?;
-    let block = write_block(alloc, &design)?;
-    let bytes = block.as_slice();
-    compare(&rt, bytes.len(), 528 + 19 + 4 * 228);
-    compare(&rt, bytes.get(48..53), Some([2, 1, 2, 3, b' '].as_slice()));
-    compare(&rt, bytes.get(514..517), Some([0x23, 0, 0].as_slice()));
-    let records = [
-        0x00, 0x00, 0x3E, 0x41, 0x80, 0x3F, 0x80, 0x00, 0xFE, 0xB0, 0x02, 0x00, 0x00, 0xFE, 0xB0,
-        0x01, 0x00, 0x00, 0xFF,
-    ];
-    compare(&rt, bytes.get(528..547), Some(records.as_slice()));
-    Ok(())
-}
-
-#[test]
-fn a_block_is_read_at_its_offset(rt: HostRuntime) -> Result<(), Fail> {
-    let alloc = rt.alloc();
-    let file = file_of(alloc, 1, &[0x00, 0x00, 0x81, 0xF4, 0x80, 0x00, 0xFF])?;
-    let loaded = read(&rt, alloc, file.as_slice(), 1)?;
-    compare(&rt, loaded.ended, true);
-    compare(&rt, loaded.design.commands(), &[at(0, 0), at(500, 0)]);
-    compare(&rt, loaded.design.threads().len(), 33);
-    compare(&rt, loaded.design.label(), &[]);
-    Ok(())
+    let front = filled(alloc, b"", b"\x07", start, b"")?;
+    filled(alloc, front.as_slice(), b" ", 528, records)
 }
 
 /// Offsets in a block of three bytes of records, and the refusal of what begins there.
@@ -128,16 +80,12 @@ const STARTS: [(u64, Option<ReadFault>); 3] = [
 ];
 
 #[test]
-fn a_block_is_refused_at_its_first_fault(rt: HostRuntime) -> Result<(), Fail> {
-    let alloc = rt.alloc();
-    let bytes = block_of(alloc, &[0x87, 0xFF, 0x00])?;
+fn a_block_is_short_where_no_header_follows(rt: HostRuntime) -> Result<(), Fail> {
+    let bytes = filled(rt.alloc(), b"", b" ", 528, &[0x87, 0xFF, 0x00])?;
     for (start, fault) in &STARTS {
-        let found = read_block(alloc, bytes.as_slice(), *start).err();
+        let found = read_block(rt.alloc(), bytes.as_slice(), *start).err();
         compare_row(&rt, *start, found, *fault);
     }
-    let far = block_of(alloc, [[0x87, 0xFF, 0x00]; 15].as_flattened())?;
-    let fault = read(&rt, alloc, far.as_slice(), 0).err();
-    compare(&rt, fault, Some(Range { at: 528 + 14 * 3 }));
     Ok(())
 }
 
@@ -158,58 +106,82 @@ fn compare_read(
     Ok(())
 }
 
+/// Compares the refusal of a block at an offset that lacks a byte of its header.
+fn compare_short(rt: &impl Abort, alloc: Global, start: u32) -> Result<(), Fail> {
+    let front = filled(alloc, b"", b"\x07", start, b"")?;
+    let short = filled(alloc, front.as_slice(), b" ", 527, b"")?;
+    let fault = read(rt, alloc, short.as_slice(), start).err();
+    let at = u64::from(start) + 527;
+    compare_row(rt, start, fault, Some(Short { at }));
+    Ok(())
+}
+
+/// Records of a stitch, a stop and a stitch to x 500, and their commands.
+const RECORDS: [u8; 10] = [0x00, 0x00, 0xFE, 0xB0, 0x02, 0x81, 0xF4, 0x80, 0x00, 0xFF];
+
+const COMMANDS: [Command; 3] = [
+    Command::Stitch(Point { x: 0, y: 0 }),
+    Command::Stop,
+    Command::Stitch(Point { x: 500, y: 0 }),
+];
+
 #[test]
 fn a_block_is_read_and_refused_wherever_it_begins(rt: HostRuntime) -> Result<(), Fail> {
-    let alloc = rt.alloc();
-    let bytes = [0x00, 0x00, 0xFE, 0xB0, 0x02, 0x81, 0xF4, 0x80, 0x00, 0xFF];
-    let commands = [at(0, 0), Command::Stop, at(500, 0)];
     for start in &OFFSETS {
-        compare_read(&rt, alloc, *start, &bytes[..3], (&commands[..1], false))?;
-        compare_read(&rt, alloc, *start, &bytes, (commands.as_slice(), true))?;
-        let front = filled(alloc, b"", b"\x07", *start, b"")?;
-        let short = filled(alloc, front.as_slice(), b" ", 527, b"")?;
-        let fault = read(&rt, alloc, short.as_slice(), *start).err();
-        let at = *start as u64 + 527;
-        compare_row(&rt, *start, fault, Some(Short { at }));
+        compare_read(
+            &rt,
+            rt.alloc(),
+            *start,
+            &RECORDS[..3],
+            (&COMMANDS[..1], false),
+        )?;
+        compare_read(
+            &rt,
+            rt.alloc(),
+            *start,
+            &RECORDS,
+            (COMMANDS.as_slice(), true),
+        )?;
+        compare_short(&rt, rt.alloc(), *start)?;
     }
     Ok(())
 }
+
+/// Compares the commands and the refusal of a block that leaves its range, and whose reader is fed further.
+fn compare_far(
+    rt: &impl Abort,
+    reader: &mut Counted,
+    start: u32,
+    far: &[u8],
+) -> Result<(), Memory> {
+    reader.begin(start);
+    reader.feed(rt, far)?;
+    compare_row(rt, start, reader.reader.so_far().len(), 14);
+    reader.feed(rt, &[0x00, 0x00, 0xFF])?;
+    compare_row(rt, start, reader.reader.so_far().len(), 14);
+    let at = u64::from(start) + 570;
+    compare_row(rt, start, reader.finish().err(), Some(Range { at }));
+    Ok(())
+}
+
+/// Records of which the last leaves the range.
+const FAR: [[u8; 3]; 15] = [[0x87, 0xFF, 0x00]; 15];
 
 #[test]
 fn a_point_out_of_range_leaves_the_commands_before_it(rt: HostRuntime) -> Result<(), Fail> {
-    let alloc = rt.alloc();
-    let far = block_of(alloc, [[0x87, 0xFF, 0x00]; 15].as_flattened())?;
+    let far = filled(rt.alloc(), b"", b" ", 528, FAR.as_flattened())?;
+    let mut reader = Counted::new(rt.alloc());
     for start in &OFFSETS {
-        let mut reader = Counted::new(alloc);
-        reader.begin(*start);
-        reader.feed(&rt, far.as_slice())?;
-        compare_row(&rt, *start, reader.reader.so_far().len(), 14);
-        reader.feed(&rt, &[0x00, 0x00, 0xFF])?;
-        compare_row(&rt, *start, reader.reader.so_far().len(), 14);
-        let at = *start as u64 + 570;
-        compare_row(&rt, *start, reader.finish().err(), Some(Range { at }));
+        compare_far(&rt, &mut reader, *start, far.as_slice())?;
     }
-    Ok(())
-}
-
-#[test]
-fn a_design_of_255_stops_is_refused_at_the_last(rt: HostRuntime) -> Result<(), Fail> {
-    let alloc = rt.alloc();
-    let design = stops(alloc, 255)?;
-    compare(
-        &rt,
-        write_block(alloc, &design).err(),
-        Some(WriteFault::TooManyStops { number: 255 }),
-    );
     Ok(())
 }
 
 #[test]
 fn a_large_design_reads_again(rt: HostRuntime) -> Result<(), Fail> {
-    let alloc = rt.alloc();
-    let design = floating(alloc, 7)?;
-    let block = write_block(alloc, &design)?;
-    let loaded = read(&rt, alloc, block.as_slice(), 0)?;
+    let design = floating(rt.alloc(), 7)?;
+    let block = write_block(rt.alloc(), &design)?;
+    let loaded = read(&rt, rt.alloc(), block.as_slice(), 0)?;
     compare_large(&rt, &loaded, b"Rose of Damascus", &[9, 200, 64, 4]);
     Ok(())
 }
