@@ -1,7 +1,9 @@
+mod comparisons;
 mod cross_runs;
 mod edit_runs;
 mod free_runs;
 mod look_runs;
+mod memory_runs;
 mod near_runs;
 mod picture_runs;
 mod snap_runs;

@@ -1,10 +1,10 @@
 mod cases;
+mod comparisons;
 mod drawings;
 mod feeding;
 mod files;
 mod limits;
 mod lists;
 mod outside;
-mod prefixes;
 mod rewrites;
 mod words;

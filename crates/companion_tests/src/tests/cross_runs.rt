@@ -7,7 +7,7 @@ const CROSSED: &str =
 
 /// Lines that cross, lines that lie on each other, a line drawn again, two starts, and lines of version 1 that meet
 /// inside or cross.
-pub const FILES: &[(&str, &str)] = &[
+pub static FILES: &[(&str, &str)] = &[
     (
         "net.rw",
         "redwork 2\nname net\nstep 25\ncolor 7\nline 0 0 100 50\nline 30 90 40 0\n",
@@ -44,7 +44,7 @@ pub const FILES: &[(&str, &str)] = &[
     ("bad.rw", "redwork 2\ncolor 1\nline 0 0 40\n"),
 ];
 
-pub const RUNS: &[Run] = &[
+pub static RUNS: &[Run] = &[
     done!("cross net.rw out.rw" =>
         "crossings 1 listed 2 dropped 0 left 0 pieces 2 to 1\n", CROSSED),
     done!("cross crossed.rw out.rw" =>

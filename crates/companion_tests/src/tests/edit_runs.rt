@@ -2,7 +2,7 @@
 use super::table_runs::Run;
 use crate::{done, faulted, misused, refused};
 
-pub const FILES: &[(&str, &str)] = &[
+pub static FILES: &[(&str, &str)] = &[
     (
         "ok.rw",
         "redwork 2\nname T\nstep 10\ncolor 1\nline 0 0 40 0 80 0\nline 40 0 40 40\n",
@@ -41,7 +41,7 @@ pub const FILES: &[(&str, &str)] = &[
     ),
 ];
 
-pub const RUNS: &[Run] = &[
+pub static RUNS: &[Run] = &[
     done!("edit ok.rw out.rw shift=5,-3" =>
         "lines 3 pieces 1 cost 12\n",
         "redwork 2\nname T\nstep 10\ncolor 1\nline 5 -3 45 -3\nline 45 -3 85 -3\nline 45 -3 45 37\n"),
@@ -74,6 +74,10 @@ pub const RUNS: &[Run] = &[
         "stitch_drawing: ok.rw: edit 2: number out of range\n"),
     refused!("edit long.rw out.rw step=1" =>
         "stitch_drawing: long.rw: edit 1: more than 200000 steps\n"),
+];
+
+/// Runs over a drawing of three pieces, and edits that aren't understood.
+pub static PIECE_RUNS: &[Run] = &[
     done!("edit pieces.rw out.rw order=2,1" =>
         "lines 3 pieces 3 cost 26\n",
         "redwork 2\nstep 10\ncolor 1\nline 100 0 140 0 140 40 100 40 100 0\nline 0 0 40 0 80 0\ncolor 2\nline 0 0 0 20\n"),

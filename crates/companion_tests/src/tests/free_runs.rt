@@ -5,7 +5,7 @@ use crate::{done, faulted, misused, refused};
 /// A star of four lines beside a closed line, pieces with and without a start or an end, lines of version 1 that meet
 /// inside or at their ends, comments, and texts with faults. The best ends of the star are the tips of two of its longest lines,
 /// of 3 and of 2 steps, which then are sewn once.
-pub const FILES: &[(&str, &str)] = &[
+pub static FILES: &[(&str, &str)] = &[
     (
         "star.rw",
         "redwork 2\nstep 10\ncolor 1\nline 0 0 30 0\nline 0 0 0 20\nline 0 0 -20 0\nline 0 0 0 -10\nline 100 0 130 0 130 30 100 0\n",
@@ -37,7 +37,7 @@ pub const FILES: &[(&str, &str)] = &[
     ),
 ];
 
-pub const RUNS: &[Run] = &[
+pub static RUNS: &[Run] = &[
     done!("free star.rw out.rw" =>
         "block 1 piece 1 start -20 0 end 30 0 penetrations 17 to 12\npenetrations 27 to 22 pieces 2\n",
         "redwork 3\nstep 10\ncolor 1\nline 0 0 30 0\nline 0 0 0 20\nline 0 0 -20 0\nline 0 0 0 -10\nline 100 0 130 0 130 30 100 0\nstart -20 0\nend 30 0\n"),

@@ -3,7 +3,7 @@ use super::table_runs::{Run, USAGE};
 use crate::{done, faulted, misused, refused};
 
 /// Two lines, one of which ends beside the other, and one that crosses.
-pub const FILES: &[(&str, &str)] = &[
+pub static FILES: &[(&str, &str)] = &[
     (
         "ok.rw",
         "redwork 2\nstep 10\ncolor 1\nline 0 0 40 0 80 0\nline 40 0 40 40\n",
@@ -38,7 +38,7 @@ pub const FILES: &[(&str, &str)] = &[
     ),
 ];
 
-pub const RUNS: &[Run] = &[
+pub static RUNS: &[Run] = &[
     done!("look ok.rw" =>
         "size 80 40 pieces 1\nblock 1 piece 1 lines 3 junctions 4 odd 4 stitches 12 shortest 10 longest 10 short 0 thread 120 travel 0\npieces 1 places 0 thread 120 travel 0\n"),
     done!("look near.rw" =>
@@ -63,6 +63,10 @@ pub const RUNS: &[Run] = &[
         "stitch_drawing: -1: from 0 to 100\n"),
     misused!("look " =>
         "stitch_drawing: : not a file name\n"),
+];
+
+/// Runs of other commands over the same files, and arguments that no command has.
+pub static OTHER_RUNS: &[Run] = &[
     done!("snap 2 loose.rw out.rw" => "moved 2 listed 1 dropped 0 left 0 pieces 4 to 2\n"),
     done!("snap 1 loose.rw out.rw" => "moved 0 listed 0 dropped 0 left 0 pieces 4 to 4\n"),
     done!("snap 3 short.rw out.rw" => "moved 0 listed 0 dropped 0 left 0 pieces 2 to 2\n"),

@@ -3,7 +3,7 @@ use super::table_runs::Run;
 use crate::{done, faulted, misused, refused};
 
 /// Three pieces on a line, of which the second is the farthest; lines that meet inside in version 1; comments; and a fault.
-pub const FILES: &[(&str, &str)] = &[
+pub static FILES: &[(&str, &str)] = &[
     (
         "three.rw",
         "redwork 2\nstep 10\ncolor 1\nline 0 0 30 0\nline 200 0 210 0\nline 50 0 60 0\n",
@@ -23,7 +23,7 @@ pub const FILES: &[(&str, &str)] = &[
     ("bad.rw", "redwork 2\ncolor 1\nline 0 0 40\n"),
 ];
 
-pub const RUNS: &[Run] = &[
+pub static RUNS: &[Run] = &[
     done!("near three.rw out.rw" =>
         "travel 350 to 170 pieces 3\n",
         "redwork 3\nstep 10\ncolor 1\nline 200 0 210 0\nline 50 0 60 0\nline 0 0 30 0\nstart 200 0\nstart 60 0\nstart 30 0\n"),

@@ -1,14 +1,13 @@
 //! Runs of `stitch_picture` over files in memory: their status, and the line or text on the standard error.
-use exp_codec::Exp;
-use format_traits::Format;
+use super::comparisons::compare_row;
+use super::memory_runs::{is_told, sink};
+use crate::contents::file_content;
 use memchr::memmem;
 use outside_io::{MemSink, MemStore};
-use picture_commands::run;
-use program_shell::Status;
+use picture_commands::run_picture;
 use std::alloc::Global;
 use std::process::Abort;
 use std::test::Fail;
-use stitch_text::List;
 
 /// Three needles 3 mm apart, and the same way back.
 const FORTH_AND_BACK: &[u8] =
@@ -33,7 +32,7 @@ const TEXT_OF_USAGE: &str =
 /// Arguments, the status of their run, and what it prints on the standard error, where the usage text follows status 2.
 type PictureCase = (&'static [&'static str], u8, &'static str);
 
-const CASES: [PictureCase; 33] = [
+static CASES: &[PictureCase] = &[
     (&["a.lst", "a.svg"], 0, ""),
     (&["a.lst", "a.svg", "700", "300"], 0, ""),
     (&["a.lst", "a.svg", "plain"], 0, ""),
@@ -155,7 +154,7 @@ type DrawnCase = (&'static [&'static str], &'static [&'static [u8]]);
 /// What is sewn again is drawn beside the first and in dashes; in a hoop that is too small stitches outside are drawn once
 /// more, and the key says so; a plain picture has the thread alone; a picture that is to fit a size has its scale; a proof shows what
 /// is sewn again and its cuts; a drawing shows its lines, the junctions of its first piece, its loose end, and the counts.
-const PICTURES: [DrawnCase; 9] = [
+static PICTURES: &[DrawnCase] = &[
     (
         &["a.lst", "a.svg"],
         &[
@@ -235,42 +234,28 @@ const PICTURES: [DrawnCase; 9] = [
 
 #[test]
 fn each_run_prints_its_line_and_ends_with_its_status(rt: HostRuntime) -> Result<(), Fail> {
-    for (words, status, line) in CASES {
+    for case in CASES {
         let mut store = stocked(rt.alloc())?;
-        let mut out = MemSink::new(rt.alloc(), 100)?;
-        let mut err = MemSink::new(rt.alloc(), 1_000)?;
-        let found = answer(rt.alloc(), words, &mut store, &mut out, &mut err)?;
-        let expected = with_usage(rt.alloc(), line, status)?;
-        assert_eq!(rt; err.taken(), expected.as_bytes(), "{words:?}");
-        assert_eq!(rt; found as u8, status, "{words:?}");
-        assert!(rt; out.taken().is_empty(), "{words:?}");
+        compare_run(&rt, rt.alloc(), &mut store, case)?;
     }
     Ok(())
 }
 
-/// Returns what is on standard error: a line, and the usage text where the status says so.
-fn with_usage(alloc: Global, line: &str, status: u8) -> Result<String, Fail> {
-    let mut text = String::from_str(alloc, line)?;
-    if status == 2 {
-        text.push_str(TEXT_OF_USAGE)?;
-    }
-    Ok(text)
-}
-
-#[test]
-fn the_usage_text_and_the_version_are_printed(rt: HostRuntime) -> Result<(), Fail> {
-    for (word, printed) in [
-        ("--help", TEXT_OF_USAGE),
-        ("--version", "stitch_picture 0.4.0\n"),
-    ] {
-        let mut store = stocked(rt.alloc())?;
-        let mut out = MemSink::new(rt.alloc(), 1_000)?;
-        let mut err = MemSink::new(rt.alloc(), 1_000)?;
-        let found = answer(rt.alloc(), &[word], &mut store, &mut out, &mut err)?;
-        assert_eq!(rt; out.taken(), printed.as_bytes(), "{word:?}");
-        assert!(rt; err.taken().is_empty(), "{word:?}");
-        assert_eq!(rt; found, Status::Done, "{word:?}");
-    }
+/// Runs the program over these files, and compares its status and what it prints, which is nothing on standard output.
+fn compare_run(
+    rt: &impl Abort,
+    alloc: Global,
+    store: &mut MemStore,
+    case: &PictureCase,
+) -> Result<(), Fail> {
+    let (words, status, line) = *case;
+    let mut out = sink(alloc, 100, 0)?;
+    let mut err = sink(alloc, 1_000, 0)?;
+    let found = answer(alloc, words, store, &mut out, &mut err)?;
+    let told = is_told(err.taken(), line, status, TEXT_OF_USAGE);
+    compare_row(rt, (words, err.taken()), told, true);
+    compare_row(rt, words, found, status);
+    compare_row(rt, words, out.taken(), b"");
     Ok(())
 }
 
@@ -278,47 +263,63 @@ fn the_usage_text_and_the_version_are_printed(rt: HostRuntime) -> Result<(), Fai
 fn each_picture_has_its_parts(rt: HostRuntime) -> Result<(), Fail> {
     for (words, parts) in PICTURES {
         let mut store = stocked(rt.alloc())?;
-        let mut out = MemSink::new(rt.alloc(), 100)?;
-        let mut err = MemSink::new(rt.alloc(), 1_000)?;
-        answer(rt.alloc(), words, &mut store, &mut out, &mut err)?;
-        has_parts(&rt, words, store.file("a.svg").unwrap_or(b""), parts);
+        draw(rt.alloc(), *words, &mut store)?;
+        has_parts(&rt, *words, file_content(&store, "a.svg"), *parts);
     }
+    Ok(())
+}
+
+/// Runs the program over these files.
+fn draw(alloc: Global, words: &[&str], store: &mut MemStore) -> Result<(), Fail> {
+    let mut out = sink(alloc, 100, 0)?;
+    let mut err = sink(alloc, 1_000, 0)?;
+    answer(alloc, words, store, &mut out, &mut err)?;
     Ok(())
 }
 
 /// Tests that each part stands in a picture.
 fn has_parts(rt: &impl Abort, words: &[&str], picture: &[u8], parts: &[&[u8]]) {
     for part in parts {
-        assert!(rt; memmem::find(picture, part).is_some(), "{words:?} {part:?}");
+        compare_row(
+            rt,
+            (words, *part),
+            memmem::find(picture, part).is_some(),
+            true,
+        );
     }
 }
 
-/// Returns a store with a design, a drawing with two certificates, a bad file, and room for pictures.
+/// A design, a drawing with two certificates, a drawing with a loose end, and a bad file.
+static FILES: &[(&str, &[u8])] = &[
+    ("a.lst", FORTH_AND_BACK),
+    ("a.rw", DRAWING),
+    ("loose.rw", LOOSE),
+    ("a.cert", PROOF),
+    ("wrong.cert", NO_PROOF),
+    ("bad.exp", b"\x80\x09\x00\x00"),
+];
+
+/// Returns a store with these files, and with room for a picture.
 fn stocked(alloc: Global) -> Result<MemStore, Fail> {
     let mut store = MemStore::new(alloc);
-    store.put_file("a.lst", FORTH_AND_BACK)?;
-    store.put_file("a.rw", DRAWING)?;
-    store.put_file("loose.rw", LOOSE)?;
-    store.put_file("a.cert", PROOF)?;
-    store.put_file("wrong.cert", NO_PROOF)?;
-    store.put_file("bad.exp", b"\x80\x09\x00\x00")?;
+    for (name, bytes) in FILES {
+        store.put_file(name, bytes)?;
+    }
     store.prepare("a.svg", 100_000)?;
     Ok(store)
 }
 
+/// Runs the program with these arguments, and returns its exit status.
 fn answer(
     alloc: Global,
     words: &[&str],
     store: &mut MemStore,
     out: &mut MemSink,
     err: &mut MemSink,
-) -> Result<Status, Fail> {
+) -> Result<u8, Fail> {
     let mut owned = Vec::new(alloc);
     for word in words {
         owned.push(String::from_str(alloc, word)?)?;
     }
-    let mut formats: Vec<Box<dyn Format>> = Vec::new(alloc);
-    formats.push(Box::new(alloc, Exp::new(alloc))?)?;
-    formats.push(Box::new(alloc, List::new(alloc))?)?;
-    Ok(run(alloc, &owned, &mut formats, store, out, err))
+    Ok(run_picture(alloc, &owned, store, out, err)? as u8)
 }

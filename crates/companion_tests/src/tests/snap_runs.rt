@@ -10,7 +10,7 @@ const SNAPPED_ENDS: &str =
 
 /// Ends and inner points that nearly meet lines, lines that nearly lie on each other, lines of two blocks, lines of
 /// version 1 that meet inside, comments of lines that are cut or left out, and what is refused.
-pub const FILES: &[(&str, &str)] = &[
+pub static FILES: &[(&str, &str)] = &[
     (
         "loose.rw",
         "redwork 2\nname loose\nstep 10\ncolor 7\nline 0 0 40 0 80 0\nline 82 1 90 40\nline 20 30 20 2\ncolor 9\nline 20 -1 20 -30\n",
@@ -83,7 +83,7 @@ pub const FILES: &[(&str, &str)] = &[
     ),
 ];
 
-pub const RUNS: &[Run] = &[
+pub static RUNS: &[Run] = &[
     done!("snap 2 loose.rw out.rw" =>
         "moved 2 listed 1 dropped 0 left 0 pieces 4 to 2\n", SNAPPED),
     done!("snap 2 snapped.rw out.rw" =>

@@ -5,7 +5,7 @@ use crate::{done, faulted, misused, refused};
 /// Points 4 apart on a line with stitches of 10, the same line spaced, points beside a stitch by 4 and by 3 tenths
 /// of a step, lines that meet inside, lines of version 1 that meet inside or at their ends, comments, texts with faults, and curves of close points: a square of
 /// 103 that begins in the middle of a side, circles of 8 and 20 mm with points 5 apart, and one of 2 mm with points 2 apart.
-pub const FILES: &[(&str, &str)] = &[
+pub static FILES: &[(&str, &str)] = &[
     (
         "dense.rw",
         "redwork 2\nstep 10\ncolor 1\nline 0 0 4 0 8 0 12 0 16 0 20 0\n",
@@ -57,7 +57,7 @@ pub const FILES: &[(&str, &str)] = &[
     ),
 ];
 
-pub const RUNS: &[Run] = &[
+pub static RUNS: &[Run] = &[
     done!("space dense.rw out.rw" =>
         "points 6 to 4 stitches 5 to 3 shortest 4 to 4 longest 4 to 8 pieces 1\n",
         "redwork 2\nstep 10\ncolor 1\nline 0 0 4 0 12 0 20 0\n"),

@@ -1,4 +1,6 @@
 //! Runs of commands of `stitch_drawing` over files in memory, by tables.
+use super::comparisons::compare_row;
+use super::memory_runs::{is_told, sink};
 use super::{cross_runs, edit_runs, free_runs, look_runs, near_runs, snap_runs, space_runs};
 use crate::contents::file_content;
 use drawing_commands::run;
@@ -67,42 +69,50 @@ fn play(
     files: &[(&'static str, &'static str)],
     runs: &[Run],
 ) -> Result<(), Fail> {
-    for (words, fails, status, printed, reported, content) in runs {
+    for row in runs {
         let mut store = stocked(alloc, files)?;
-        let mut out = MemSink::new(alloc, 10_000)?;
-        let mut err = MemSink::new(alloc, 1_000)?;
-        store.fail_at(fails[0])?;
-        out.fail_at(fails[1])?;
-        err.fail_at(fails[2])?;
-        let mut given = Vec::new(alloc);
-        if !words.is_empty() {
-            for word in words.split(' ') {
-                given.push(String::from_str(alloc, word)?)?;
-            }
-        }
-        let ended = run(alloc, &given, &mut store, &mut out, &mut err);
-        assert_eq!(rt; out.taken(), printed.as_bytes(), "{words:?}");
-        let expected = with_usage(alloc, reported, *status)?;
-        assert_eq!(rt; err.taken(), expected.as_bytes(), "{words:?}");
-        assert_eq!(rt; ended as u8, *status, "{words:?}");
-        if let Some(text) = content {
-            assert_eq!(rt;
-                file_content(&store, "out.rw"),
-                text.as_bytes(),
-                "{words:?}"
-            );
-        }
+        compare_run(rt, alloc, &mut store, row)?;
     }
     Ok(())
 }
 
-/// Returns what is on standard error: a line, and the usage text where the status says so.
-fn with_usage(alloc: Global, line: &str, status: u8) -> Result<String, Fail> {
-    let mut text = String::from_str(alloc, line)?;
-    if status == 2 {
-        text.push_str(USAGE)?;
+/// Runs a command over these files, and compares what it leaves.
+fn compare_run(
+    rt: &impl Abort,
+    alloc: Global,
+    store: &mut MemStore,
+    row: &Run,
+) -> Result<(), Fail> {
+    let (words, fails, status, printed, reported, content) = *row;
+    store.fail_at(fails[0])?;
+    let mut out = sink(alloc, 10_000, fails[1])?;
+    let mut err = sink(alloc, 1_000, fails[2])?;
+    let ended = answer(alloc, words, store, &mut out, &mut err)?;
+    compare_row(rt, words, out.taken(), printed.as_bytes());
+    let told = is_told(err.taken(), reported, status, USAGE);
+    compare_row(rt, (words, err.taken()), told, true);
+    compare_row(rt, words, ended, status);
+    if let Some(text) = content {
+        compare_row(rt, words, file_content(store, "out.rw"), text.as_bytes());
     }
-    Ok(text)
+    Ok(())
+}
+
+/// Runs the program with the arguments that spaces separate, and returns its exit status.
+fn answer(
+    alloc: Global,
+    words: &str,
+    store: &mut MemStore,
+    out: &mut MemSink,
+    err: &mut MemSink,
+) -> Result<u8, Fail> {
+    let mut given = Vec::new(alloc);
+    if !words.is_empty() {
+        for word in words.split(' ') {
+            given.push(String::from_str(alloc, word)?)?;
+        }
+    }
+    Ok(run(alloc, &given, store, out, err) as u8)
 }
 
 /// Returns a store with these files, and with room for `out.rw`.
@@ -116,18 +126,46 @@ fn stocked(alloc: Global, files: &[(&'static str, &'static str)]) -> Result<MemS
 }
 
 #[test]
-fn each_run_leaves_what_its_table_says(rt: HostRuntime) -> Result<(), Fail> {
-    let tables = [
-        (edit_runs::FILES, edit_runs::RUNS),
-        (look_runs::FILES, look_runs::RUNS),
-        (snap_runs::FILES, snap_runs::RUNS),
-        (cross_runs::FILES, cross_runs::RUNS),
-        (space_runs::FILES, space_runs::RUNS),
-        (free_runs::FILES, free_runs::RUNS),
-        (near_runs::FILES, near_runs::RUNS),
-    ];
-    for (files, runs) in tables {
-        play(&rt, rt.alloc(), files, runs)?;
-    }
-    Ok(())
+fn drawings_are_edited(rt: HostRuntime) -> Result<(), Fail> {
+    play(&rt, rt.alloc(), edit_runs::FILES, edit_runs::RUNS)
+}
+
+#[test]
+fn pieces_are_ordered_and_given_ends(rt: HostRuntime) -> Result<(), Fail> {
+    play(&rt, rt.alloc(), edit_runs::FILES, edit_runs::PIECE_RUNS)
+}
+
+#[test]
+fn drawings_are_looked_at(rt: HostRuntime) -> Result<(), Fail> {
+    play(&rt, rt.alloc(), look_runs::FILES, look_runs::RUNS)
+}
+
+#[test]
+fn other_commands_and_arguments_are_answered(rt: HostRuntime) -> Result<(), Fail> {
+    play(&rt, rt.alloc(), look_runs::FILES, look_runs::OTHER_RUNS)
+}
+
+#[test]
+fn lines_are_snapped(rt: HostRuntime) -> Result<(), Fail> {
+    play(&rt, rt.alloc(), snap_runs::FILES, snap_runs::RUNS)
+}
+
+#[test]
+fn crossings_are_listed(rt: HostRuntime) -> Result<(), Fail> {
+    play(&rt, rt.alloc(), cross_runs::FILES, cross_runs::RUNS)
+}
+
+#[test]
+fn points_are_spaced(rt: HostRuntime) -> Result<(), Fail> {
+    play(&rt, rt.alloc(), space_runs::FILES, space_runs::RUNS)
+}
+
+#[test]
+fn ends_are_chosen_freely(rt: HostRuntime) -> Result<(), Fail> {
+    play(&rt, rt.alloc(), free_runs::FILES, free_runs::RUNS)
+}
+
+#[test]
+fn near_pieces_follow_one_another(rt: HostRuntime) -> Result<(), Fail> {
+    play(&rt, rt.alloc(), near_runs::FILES, near_runs::RUNS)
 }

@@ -1,35 +1,37 @@
 //! Runs the cases of tests: commands one after another over one store.
+use super::comparisons::compare_row;
 use crate::padded;
 use case_tables::{Case, CaseStep, ExpectedText, FileContent, has_part};
-use dst_codec::Dst;
-use exp_codec::Exp;
-use format_traits::Format;
 use outside_io::{MemSink, MemStore};
-use pes_codec::{Pec, Pes};
 use std::alloc::Global;
 use std::process::Abort;
 use std::test::Fail;
-use stitch_cli::{Status, run};
-use stitch_text::List;
+use stitch_cli::{Status, run_stitch};
 
 /// The file names that have room for what commands write.
 const WRITTEN: [&str; 10] = [
     "b.dst", "b.exp", "b.pec", "b.pes", "b.cert", "c.exp", "c.pes", "s.rw", "b.lst", "c.dst",
 ];
 
-/// Runs the cases.
+/// Runs the cases of a table.
 pub fn play(rt: &impl Abort, alloc: Global, cases: &[Case]) -> Result<(), Fail> {
     for case in cases {
-        let mut store = stocked(alloc, case.before)?;
-        for step in case.steps {
-            take(rt, alloc, step, &mut store)?;
-        }
+        run_steps(rt, alloc, case)?;
+    }
+    Ok(())
+}
+
+/// Runs the steps of a case over its files.
+fn run_steps(rt: &impl Abort, alloc: Global, case: &Case) -> Result<(), Fail> {
+    let mut store = stocked(alloc, case.before)?;
+    for step in case.steps {
+        take(rt, alloc, step, &mut store)?;
     }
     Ok(())
 }
 
 /// Returns a store with these files, and with room for what is written.
-pub fn stocked(alloc: Global, before: &[(&'static str, FileContent)]) -> Result<MemStore, Fail> {
+fn stocked(alloc: Global, before: &[(&'static str, FileContent)]) -> Result<MemStore, Fail> {
     let mut store = MemStore::new(alloc);
     for (name, holds) in before {
         put(alloc, &mut store, name, *holds)?;
@@ -67,42 +69,35 @@ pub fn behind(
     Ok(bytes)
 }
 
+/// Runs a step, and compares its status, what it prints, and the files that it leaves.
 fn take(rt: &impl Abort, alloc: Global, step: &CaseStep, store: &mut MemStore) -> Result<(), Fail> {
-    let mut out = MemSink::new(alloc, 100_000)?;
-    let mut err = MemSink::new(alloc, 1_000)?;
     let words = step.words;
-    let before = sizes(store);
     store.fail_at(step.fails.store)?;
-    out.fail_at(step.fails.out)?;
-    err.fail_at(step.fails.err)?;
+    let mut out = sink(alloc, 100_000, step.fails.out)?;
+    let mut err = sink(alloc, 1_000, step.fails.err)?;
     let status = answer(alloc, words, store, &mut out, &mut err)?;
-    assert_eq!(rt; err.taken(), step.err.as_bytes(), "{words:?}");
-    assert_eq!(rt; status as u8, step.status, "{words:?}");
-    match step.out {
-        ExpectedText::Exactly(text) => assert_eq!(rt; out.taken(), text.as_bytes(), "{words:?}"),
-        ExpectedText::EndsWith(text) => assert!(rt;
-            out.taken().ends_with(text.as_bytes()),
-            "{words:?}"
-        ),
-    }
-    if status == Status::Refused {
-        assert_eq!(rt; sizes(store), before, "{words:?}");
-    }
+    compare_row(rt, words, err.taken(), step.err.as_bytes());
+    compare_row(rt, words, status as u8, step.status);
+    let told = is_told(out.taken(), step.out);
+    compare_row(rt, (words, out.taken()), told, true);
     for (name, holds) in step.after {
-        assert!(rt; is_held(store, name, *holds), "{words:?} leaves {name}");
+        compare_row(rt, (words, *name), is_held(store, name, *holds), true);
     }
     Ok(())
 }
 
-/// Returns the lengths of the files that commands write.
-fn sizes(store: &MemStore) -> [Option<usize>; 10] {
-    let mut sizes = [None; 10];
-    for (size, name) in sizes.iter_mut().zip(WRITTEN) {
-        if let Some(file) = store.file(name) {
-            *size = Some(file.len());
-        }
+/// Returns a sink of that room, in which the put of that number fails.
+fn sink(alloc: Global, room: u32, fails: u64) -> Result<MemSink, Fail> {
+    let mut sink = MemSink::new(alloc, room)?;
+    sink.fail_at(fails)?;
+    Ok(sink)
+}
+
+fn is_told(report: &[u8], text: ExpectedText) -> bool {
+    match text {
+        ExpectedText::Exactly(text) => report == text.as_bytes(),
+        ExpectedText::EndsWith(end) => report.ends_with(end.as_bytes()),
     }
-    sizes
 }
 
 fn is_held(store: &MemStore, name: &str, holds: FileContent) -> bool {
@@ -133,7 +128,7 @@ pub fn arguments(alloc: Global, words: &str) -> Result<Vec<String>, Fail> {
 }
 
 /// Runs the program over its five formats, and returns its exit status.
-pub fn answer(
+fn answer(
     alloc: Global,
     words: &str,
     store: &mut MemStore,
@@ -141,11 +136,5 @@ pub fn answer(
     err: &mut MemSink,
 ) -> Result<Status, Fail> {
     let owned = arguments(alloc, words)?;
-    let mut formats: Vec<Box<dyn Format>> = Vec::new(alloc);
-    formats.push(Box::new(alloc, Dst::new(alloc))?)?;
-    formats.push(Box::new(alloc, Exp::new(alloc))?)?;
-    formats.push(Box::new(alloc, Pec::new(alloc))?)?;
-    formats.push(Box::new(alloc, Pes::new(alloc))?)?;
-    formats.push(Box::new(alloc, List::new(alloc))?)?;
-    Ok(run(alloc, &owned, &mut formats, store, out, err))
+    Ok(run_stitch(alloc, &owned, store, out, err)?)
 }

@@ -1,5 +1,6 @@
 //! A stitch file is fed to its format part by part, and not decoded as a whole.
 use super::cases::{arguments, behind};
+use super::comparisons::compare;
 use design_model::{Bytes, Command, Design, Memory};
 use dst_codec::Dst;
 use format_traits::{Format, Loaded, ReadFault, WriteFault};
@@ -58,27 +59,31 @@ impl Format for FedAlone {
     }
 }
 
-#[test]
-fn a_file_is_shown_that_can_only_be_fed(rt: HostRuntime) -> Result<(), Fail> {
-    let alloc = rt.alloc();
+/// Returns a store with a DST file of one record.
+fn one_record(alloc: Global) -> Result<MemStore, Fail> {
     let file = behind(alloc, b"", 512, 1, &[0x00, 0x05, 0x03, 0x00, 0x05])?;
     let mut store = MemStore::new(alloc);
     store.put_file("a.dst", file.as_slice())?;
-    let mut out = MemSink::new(alloc, 1_000)?;
+    Ok(store)
+}
+
+/// Runs `show` over a format that can only be fed, and returns whether it is done.
+fn is_shown(alloc: Global, out: &mut MemSink) -> Result<bool, Fail> {
+    let dst = Dst::new(alloc);
+    let mut formats: [Box<dyn Format>; 1] = [Box::new(alloc, FedAlone { dst })?];
+    let mut store = one_record(alloc)?;
     let mut err = MemSink::new(alloc, 1_000)?;
-    let mut formats: Vec<Box<dyn Format>> = Vec::new(alloc);
-    formats.push(Box::new(
-        alloc,
-        FedAlone {
-            dst: Dst::new(alloc),
-        },
-    )?)?;
     let words = arguments(alloc, "show a.dst")?;
-    let status = run(alloc, &words, &mut formats, &mut store, &mut out, &mut err);
-    assert_eq!(rt; status, Status::Done);
-    assert_eq!(rt;
-        out.taken(),
-        b"format dst\nlabel []\ncommands 1\nneedles 1\ntrims 0\nstops 0\nextent 30 0 30 0\nended no\nblock 1 thread 1 needles 1\n".as_slice()
-    );
+    Ok(run(alloc, &words, &mut formats, &mut store, out, &mut err) == Status::Done)
+}
+
+const REPORT: &str =
+    "format dst\nlabel []\ncommands 1\nneedles 1\ntrims 0\nstops 0\nextent 30 0 30 0\nended no\nblock 1 thread 1 needles 1\n";
+
+#[test]
+fn a_file_is_shown_that_can_only_be_fed(rt: HostRuntime) -> Result<(), Fail> {
+    let mut out = MemSink::new(rt.alloc(), 1_000)?;
+    compare(&rt, is_shown(rt.alloc(), &mut out)?, true);
+    compare(&rt, out.taken(), REPORT.as_bytes());
     Ok(())
 }

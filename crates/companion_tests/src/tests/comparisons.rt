@@ -1,0 +1,13 @@
+//! A comparison as a function: an `assert_eq!` in place makes the proof of its test several times as long.
+use std::fmt::Debug;
+use std::process::Abort;
+
+/// Compares what was found in a row of a table with what is wanted, and names the row where they differ.
+pub fn compare_row<R: Debug + Copy, T: PartialEq + Debug + Copy>(
+    rt: &impl Abort,
+    row: R,
+    found: T,
+    wanted: T,
+) {
+    assert_eq!(rt; found, wanted, "{row:?}");
+}
