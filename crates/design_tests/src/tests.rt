@@ -1,8 +1,9 @@
-mod colours;
 mod comparisons;
 mod designs;
 mod edits;
 mod hoops;
+mod lengths;
+mod memory_stores;
 mod pictures;
 mod refits;
 mod stores;

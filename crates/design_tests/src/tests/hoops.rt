@@ -1,7 +1,8 @@
 use super::comparisons::{compare, compare_row};
 use crate::stitch;
-use design_model::{Command, Point};
+use design_model::{Command, Design, Point};
 use hoop_check::{Fit, fits};
+use std::process::Abort;
 use std::test::Fail;
 use test_values::{design_of, large};
 
@@ -61,9 +62,21 @@ const FITS: [(&[Command], u32, u32, Fit); 8] = [
 fn a_design_fits_upright_turned_or_not(rt: HostRuntime) -> Result<(), Fail> {
     for (commands, w, h, fit) in &FITS {
         let design = design_of(rt.alloc(), commands)?;
-        compare_row(&rt, (*w, *h), &fits(&design, *w, *h), fit);
+        compare_row(&rt, (*w, *h), fits(&design, *w, *h), *fit);
     }
     Ok(())
+}
+
+/// What the large design has in its hoop too much.
+const OVER: Fit = Fit::No {
+    over_x: 1,
+    over_y: 3,
+};
+
+fn compare_fits(rt: &impl Abort, design: &Design) {
+    compare(rt, fits(design, 99, 200), Fit::Upright);
+    compare(rt, fits(design, 200, 99), Fit::Turned);
+    compare(rt, fits(design, 98, 197), OVER);
 }
 
 /// The needles of this design are 99 wide and 200 high.
@@ -73,12 +86,6 @@ fn a_large_design_fits_by_all_its_needles(rt: HostRuntime) -> Result<(), Fail> {
         let outside = Command::Jump(Point { x: 900, y: x });
         [stitch(x, 300), outside, stitch(x, 100), Command::Trim]
     })?;
-    compare(&rt, fits(&design, 99, 200), Fit::Upright);
-    compare(&rt, fits(&design, 200, 99), Fit::Turned);
-    let over = Fit::No {
-        over_x: 1,
-        over_y: 3,
-    };
-    compare(&rt, fits(&design, 98, 197), over);
+    compare_fits(&rt, &design);
     Ok(())
 }

@@ -96,21 +96,11 @@ fn the_ends_of_the_steps_are_rounded_towards_the_lesser_number(
     Ok(())
 }
 
-fn jump(x: i32, y: i32) -> Command {
-    Command::Jump(Point { x, y })
-}
-
-fn fitted(
-    alloc: Global,
-    mode: RefitMode,
-    limit: u32,
-    commands: &[Command],
-) -> Result<Design, Fail> {
+fn refitted(alloc: Global, mode: RefitMode, limit: u32, design: &Design) -> Result<Design, Fail> {
     if limit < 1 || limit > MAX_STEP {
         return Err("no limit".into());
     }
-    let design = filled(alloc, commands)?;
-    Ok(refit(alloc, &design, limit, mode).ok().ok_or("no memory")?)
+    Ok(refit(alloc, design, limit, mode).ok().ok_or("no memory")?)
 }
 
 const FAR_APART: [Command; 5] = [
@@ -171,12 +161,25 @@ const REFITS: [(RefitMode, u32, &[Command], &[Command]); 6] = [
     (RefitMode::Cut, 121, &FAR, &FAR),
 ];
 
+/// Compares a refit of commands in thread 9 with the given commands, and its threads.
+fn compare_refit(
+    rt: &impl Abort,
+    alloc: Global,
+    (mode, limit): (RefitMode, u32),
+    before: &[Command],
+    after: &[Command],
+) -> Result<(), Fail> {
+    let design = filled(alloc, before)?;
+    let refitted = refitted(alloc, mode, limit, &design)?;
+    compare(rt, refitted.commands(), after);
+    compare(rt, refitted.threads(), &[9]);
+    Ok(())
+}
+
 #[test]
 fn far_needles_are_split_and_floats_are_cut(rt: HostRuntime) -> Result<(), Fail> {
     for (mode, limit, before, after) in &REFITS {
-        let design = fitted(rt.alloc(), *mode, *limit, before)?;
-        compare_row(&rt, *before, design.commands(), *after);
-        compare_row(&rt, *before, design.threads(), &[9]);
+        compare_refit(&rt, rt.alloc(), (*mode, *limit), before, after)?;
     }
     Ok(())
 }
@@ -192,14 +195,21 @@ fn full(alloc: Global) -> Result<Design, ModelFault> {
     Ok(design)
 }
 
+/// Compares the refusal of a refit that splits stitches longer than 10.
+fn compare_refusal(rt: &impl Abort, alloc: Global, design: &Design, wanted: Option<RefitFault>) {
+    let fault = refit(alloc, design, 10, RefitMode::Split).err();
+    compare(rt, fault, wanted);
+}
+
+/// The refusal at the last act of a million.
+const LAST: RefitFault = RefitFault::TooMany { number: 1_000_000 };
+
 #[test]
 fn a_refit_stops_at_the_act_with_a_command_too_many(rt: HostRuntime) -> Result<(), Fail> {
     let mut design = full(rt.alloc())?;
-    let refitted = refit(rt.alloc(), &design, 10, RefitMode::Split);
-    compare(&rt, refitted.is_ok(), true);
+    compare_refusal(&rt, rt.alloc(), &design, None);
     design.push(stitch(31, 0))?;
-    let fault = refit(rt.alloc(), &design, 10, RefitMode::Split).err();
-    compare(&rt, fault, Some(RefitFault::TooMany { number: 1_000_000 }));
+    compare_refusal(&rt, rt.alloc(), &design, Some(LAST));
     Ok(())
 }
 
@@ -209,25 +219,31 @@ fn compare_counts(rt: &impl Abort, design: &Design, wanted: [u32; 3]) {
     compare(rt, [all.needles, all.trims, all.stops], wanted);
 }
 
-#[test]
-fn a_large_design_is_split_and_cut(rt: HostRuntime) -> Result<(), Fail> {
-    let design = large(rt.alloc(), &[9], |x| {
+/// Compares what is cut of the large design with its counts, its label and its threads.
+fn compare_cut(rt: &impl Abort, cut: &Design) {
+    compare_counts(rt, cut, [14_993, 1_250, 3]);
+    compare(rt, cut.label(), b"Rose of Damascus");
+    compare(rt, cut.threads(), &[9]);
+}
+
+/// Returns a large design of long stitches, and of floats in every second round.
+fn long(alloc: Global) -> Result<Design, ModelFault> {
+    large(alloc, &[9], |x| {
         let third = if x % 2 == 0 {
-            jump(x, 5)
+            jump!(x, 5)
         } else {
-            stitch(x, 30)
+            stitch!(x, 30)
         };
         [stitch(x, 0), stitch(x, 100), third, stitch(x, 60)]
-    })?;
-    let split = refit(rt.alloc(), &design, 50, RefitMode::Split)
-        .ok()
-        .ok_or("no memory")?;
+    })
+}
+
+#[test]
+fn a_large_design_is_split_and_cut(rt: HostRuntime) -> Result<(), Fail> {
+    let design = long(rt.alloc())?;
+    let split = refitted(rt.alloc(), RefitMode::Split, 50, &design)?;
     compare_counts(&rt, &split, [14_993, 0, 3]);
-    let cut = refit(rt.alloc(), &split, 50, RefitMode::Cut)
-        .ok()
-        .ok_or("no memory")?;
-    compare_counts(&rt, &cut, [14_993, 1_250, 3]);
-    compare(&rt, cut.label(), b"Rose of Damascus");
-    compare(&rt, cut.threads(), &[9]);
+    let cut = refitted(rt.alloc(), RefitMode::Cut, 50, &split)?;
+    compare_cut(&rt, &cut);
     Ok(())
 }
