@@ -5,7 +5,7 @@ use super::cert_parts::compare_walk;
 use super::comparisons::{compare, compare_row};
 use certificate_text::{CertFault, print_cert, read_cert};
 use design_model::{Bytes, MAX_FILE, Memory};
-use odd_cuts::{Cert, Cut};
+use odd_cuts::{Cert, Cut, PieceCert};
 use std::alloc::Global;
 use std::process::Abort;
 use std::test::Fail;
@@ -165,6 +165,17 @@ fn compare_cuts(rt: &impl Abort, cuts: &[Cut], wanted: &[(u32, &[u32])]) {
     }
 }
 
+/// Compares the pieces of a certificate with the given parts.
+fn compare_parts(rt: &impl Abort, pieces: &[PieceCert]) {
+    compare(rt, pieces.len(), PARTS.len());
+    for (piece, (retraced, walk, cuts)) in pieces.iter().zip(PARTS.iter()) {
+        compare(rt, piece.retraced, *retraced);
+        compare_walk(rt, piece.walk.as_slice(), walk);
+        compare_cuts(rt, piece.cuts.as_slice(), cuts);
+    }
+}
+
+/// Returns what is printed of the certificate that is read from a text.
 fn printed_again(alloc: Global, text: &[u8]) -> Result<Bytes, CertFault> {
     let read = cert(alloc, text)?;
     let printed = print_cert(alloc, &read)?;
@@ -182,12 +193,7 @@ fn a_certificate_of_two_pieces_is_read_and_printed_again(rt: HostRuntime) -> Res
     compare_printed(&rt, rt.alloc(), TWO_PIECES.as_bytes());
     let read = cert(rt.alloc(), TWO_PIECES.as_bytes());
     let read = read.ok().ok_or("two pieces")?;
-    compare(&rt, read.pieces.len(), PARTS.len());
-    for (piece, (retraced, walk, cuts)) in read.pieces.as_slice().iter().zip(PARTS.iter()) {
-        compare(&rt, piece.retraced, *retraced);
-        compare_walk(&rt, piece.walk.as_slice(), walk);
-        compare_cuts(&rt, piece.cuts.as_slice(), cuts);
-    }
+    compare_parts(&rt, read.pieces.as_slice());
     Ok(())
 }
 

@@ -8,11 +8,11 @@ pub fn compare<T: PartialEq + Debug + Drop>(rt: &impl Abort, found: T, wanted: T
 }
 
 /// Compares what was found in a row of a table with what is wanted, and names the row where they differ.
-pub fn compare_row<R: Debug + Drop, T: PartialEq + Debug + Drop>(
+pub fn compare_row<R: Copy + PartialEq + Debug, T: PartialEq + Debug + Drop>(
     rt: &impl Abort,
     row: R,
     found: T,
     wanted: T,
 ) {
-    assert_eq!(rt; found, wanted, "{row:?}");
+    compare(rt, (row, found), (row, wanted));
 }

@@ -279,15 +279,17 @@ const HALVES: [CutRow; 2] = [
     ),
 ];
 
-/// Compares the result of the check with the expected one, for each table of cuts of a piece that retraces the given
-/// cost.
+/// Compares the result of the check with the expected one, for each table of cuts of a drawing's piece that retraces
+/// the given cost.
 fn compare_cuts(
     rt: &impl Abort,
     alloc: Global,
-    p: &Piece,
+    (text, more): (&str, &str),
     retraced: u32,
     rows: &[CutRow],
-) -> Result<(), Memory> {
+) -> Result<(), Fail> {
+    let pieces = pieces_of(alloc, text, more)?;
+    let p = first_of(&pieces)?;
     for (table, wanted) in rows {
         compare_row(rt, *table, said(alloc, p, retraced, *table)?, *wanted);
     }
@@ -296,20 +298,16 @@ fn compare_cuts(
 
 #[test]
 fn the_first_fault_of_cuts_is_told(rt: HostRuntime) -> Result<(), Fail> {
-    let star = pieces_of(rt.alloc(), STAR, "")?;
-    compare_cuts(&rt, rt.alloc(), first_of(&star)?, 6, &TOTALS)?;
-    compare_cuts(&rt, rt.alloc(), first_of(&star)?, 6, &FAULTS)?;
-    Ok(())
+    compare_cuts(&rt, rt.alloc(), (STAR, ""), 6, &TOTALS)?;
+    compare_cuts(&rt, rt.alloc(), (STAR, ""), 6, &FAULTS)
 }
 
 #[test]
 fn start_and_end_are_odd_no_more(rt: HostRuntime) -> Result<(), Fail> {
-    let star = pieces_of(rt.alloc(), STAR, BETWEEN)?;
-    Ok(compare_cuts(&rt, rt.alloc(), first_of(&star)?, 3, &OPEN)?)
+    compare_cuts(&rt, rt.alloc(), (STAR, BETWEEN), 3, &OPEN)
 }
 
 #[test]
 fn halves_at_four_junctions_are_a_packing(rt: HostRuntime) -> Result<(), Fail> {
-    let complete = pieces_of(rt.alloc(), COMPLETE, "")?;
-    Ok(compare_cuts(&rt, rt.alloc(), first_of(&complete)?, 2, &HALVES)?)
+    compare_cuts(&rt, rt.alloc(), (COMPLETE, ""), 2, &HALVES)
 }

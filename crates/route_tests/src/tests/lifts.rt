@@ -10,6 +10,7 @@ use line_graph::{Edge, Piece};
 use matching_checks::{all_laminar, all_odd};
 use odd_paths::{odd, rows};
 use std::alloc::Global;
+use std::process::Abort;
 use std::test::Fail;
 
 /// A moat, by its members and its width.
@@ -135,12 +136,17 @@ const MOATS: [(&[Ring], &[u32]); 6] = [
     ),
 ];
 
+/// Compares what is told of the cuts of moats in a piece with what is wanted.
+fn compare_moats(rt: &impl Abort, alloc: Global, p: &Piece) -> Result<(), Fail> {
+    for (rings, wanted) in &MOATS {
+        let told = told_of(alloc, p, rings)?;
+        compare_row(rt, *rings, told.as_slice(), *wanted);
+    }
+    Ok(())
+}
+
 #[test]
 fn moats_become_cuts_of_the_junctions_that_they_reach(rt: HostRuntime) -> Result<(), Fail> {
     let p = tree(rt.alloc())?;
-    for (rings, wanted) in &MOATS {
-        let told = told_of(rt.alloc(), &p, rings)?;
-        compare_row(&rt, *rings, told.as_slice(), *wanted);
-    }
-    Ok(())
+    compare_moats(&rt, rt.alloc(), &p)
 }

@@ -9,6 +9,7 @@ use line_graph::{DrawKind, Drawing, DrawingMaker, Walk};
 use odd_cuts::{Cert, Cut, CutFault, Cuts, PieceCert, PieceCerts, WalkFault};
 use route_verdict::{Reason, Verdict, judge};
 use std::alloc::Global;
+use std::process::Abort;
 use std::test::Fail;
 use test_values::design_of;
 
@@ -179,17 +180,24 @@ const CLAIMS: [(PieceClaim, Verdict); 9] = [
     ((4, [-1, 1], 8, [2, 0]), acts!(1)),
 ];
 
+/// The verdict on a certificate without pieces.
+const NO_PIECES: Verdict = Verdict::No(Reason::Pieces { found: 0, drawn: 1 });
+
+/// Compares the verdicts on certificates of one stroke.
+fn compare_claims(rt: &impl Abort, alloc: Global, d: &Drawing) -> Result<(), Fail> {
+    for (said, wanted) in &CLAIMS {
+        let found = verdict_on(alloc, d, &SEWN, &[*said])?;
+        compare_row(rt, *said, found == *wanted, true);
+    }
+    let none = verdict_on(alloc, d, &SEWN, &[])?;
+    compare(rt, none == NO_PIECES, true);
+    Ok(())
+}
+
 #[test]
 fn the_first_thing_that_is_wrong_is_told(rt: HostRuntime) -> Result<(), Fail> {
     let d = strokes(rt.alloc(), &[(0, 40)]).ok().ok_or("no drawing")?;
-    for (said, wanted) in &CLAIMS {
-        let found = verdict_on(rt.alloc(), &d, &SEWN, &[*said])?;
-        compare_row(&rt, *said, found == *wanted, true);
-    }
-    let none = verdict_on(rt.alloc(), &d, &SEWN, &[])?;
-    let wanted = Verdict::No(Reason::Pieces { found: 0, drawn: 1 });
-    compare(&rt, none == wanted, true);
-    Ok(())
+    compare_claims(&rt, rt.alloc(), &d)
 }
 
 /// A jump that leads nowhere.
@@ -226,14 +234,22 @@ const SEWINGS: [([Command; 5], Verdict); 6] = [
     ),
 ];
 
+/// Compares the verdicts on commands that sew one stroke, or don't.
+fn compare_sewings(rt: &impl Abort, alloc: Global, d: &Drawing) -> Result<(), Fail> {
+    for (commands, wanted) in &SEWINGS {
+        let found = verdict_on(alloc, d, commands, &[FIRST])?;
+        compare_row(rt, *commands, found == *wanted, true);
+    }
+    Ok(())
+}
+
+/// The certificate of a stroke of one step.
+const FIRST: PieceClaim = (1, [1, -1], 2, [2, 0]);
+
 #[test]
 fn the_first_act_that_differs_is_told(rt: HostRuntime) -> Result<(), Fail> {
     let d = strokes(rt.alloc(), &[(0, 10)]).ok().ok_or("no drawing")?;
-    for (commands, wanted) in &SEWINGS {
-        let found = verdict_on(rt.alloc(), &d, commands, &[(1, [1, -1], 2, [2, 0])])?;
-        compare_row(&rt, *commands, found == *wanted, true);
-    }
-    Ok(())
+    compare_sewings(&rt, rt.alloc(), &d)
 }
 
 /// Commands that sew two strokes.
@@ -267,14 +283,18 @@ const SECONDS: [(PieceClaim, Verdict); 6] = [
     ((2, [2, -2], 4, [1, 0]), acts!(6)),
 ];
 
+/// Compares the verdicts on certificates of the second of two strokes.
+fn compare_seconds(rt: &impl Abort, alloc: Global, d: &Drawing) -> Result<(), Fail> {
+    for (second, wanted) in &SECONDS {
+        let found = verdict_on(alloc, d, &BOTH, &[FIRST, *second])?;
+        compare_row(rt, *second, found == *wanted, true);
+    }
+    Ok(())
+}
+
 #[test]
 fn the_second_piece_is_judged_by_its_own_lines(rt: HostRuntime) -> Result<(), Fail> {
     let strokes = strokes(rt.alloc(), &[(0, 10), (50, 70)]);
     let d = strokes.ok().ok_or("no drawing")?;
-    for (second, wanted) in &SECONDS {
-        let table = [(1, [1, -1], 2, [2, 0]), *second];
-        let found = verdict_on(rt.alloc(), &d, &BOTH, &table)?;
-        compare_row(&rt, *second, found == *wanted, true);
-    }
-    Ok(())
+    compare_seconds(&rt, rt.alloc(), &d)
 }
