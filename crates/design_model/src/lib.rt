@@ -16,6 +16,7 @@
 mod act;
 mod act_lists;
 mod act_scanner;
+mod backwards;
 mod block_needles;
 mod bounds;
 mod command;
@@ -36,6 +37,7 @@ mod whole_number;
 pub use act::{Act, NumberedAct};
 pub use act_lists::acts;
 pub use act_scanner::ActScanner;
+pub use backwards::{byte_before, number_before};
 pub use block_needles::block_counts;
 pub use bounds::{Extent, height, width};
 pub use command::Command;

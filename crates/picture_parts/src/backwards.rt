@@ -1,12 +1,12 @@
 ghost use Rattle.std.specs.Fmt.{decimal, signed_decimal};
-ghost use Rattle.std.specs.Prelude.{◌≡◌, ◌≤◌, ◌<◌, ◌+◌, ◌∷◌, ◌++◌, drop, length};
+ghost use Rattle.std.specs.Prelude.{◌≡◌, ◌≤◌, ◌+◌, ◌∷◌, ◌++◌, drop, length};
 
-use design_model::Point;
+use design_model::{Point, byte_before, number_before};
 use itoa::write_digits;
 
 /// Writes a point before the index `end`, and returns the index of its first byte.
 pub(crate) fn point_before(room: &mut [u8], end: usize, at: Point) -> usize
-    requires some { 43 ≤ end }
+    requires some { 23 ≤ end }
     requires there { end ≤ length room.old }
     ensures within { result ≤ end }
     ensures written { drop result room.new
@@ -31,16 +31,6 @@ pub(crate) fn radii_before(room: &mut [u8], end: usize, radius: u64) -> usize
     byte_before(room, first, b'A')
 }
 
-fn byte_before(room: &mut [u8], end: usize, byte: u8) -> usize
-    requires some { 0 < end }
-    requires there { end ≤ length room.old }
-    ensures start { result + 1 ≡ end }
-    ensures written { drop result room.new ≡ byte ∷ drop end room.old }
-{
-    room[end - 1] = byte;
-    end - 1
-}
-
 fn digits_before(room: &mut [u8], end: usize, number: u64) -> usize
     requires some { 20 ≤ end }
     requires there { end ≤ length room.old }
@@ -49,18 +39,4 @@ fn digits_before(room: &mut [u8], end: usize, number: u64) -> usize
     ensures written { drop result room.new ≡ decimal number ++ drop end room.old }
 {
     write_digits(number, room, end)
-}
-
-fn number_before(room: &mut [u8], end: usize, number: i32) -> usize
-    requires some { 21 ≤ end }
-    requires there { end ≤ length room.old }
-    ensures within { result ≤ end }
-    ensures most { end ≤ result + 21 }
-    ensures written { drop result room.new ≡ signed_decimal number ++ drop end room.old }
-{
-    let start = digits_before(room, end, number.unsigned_abs() as u64);
-    if number >= 0 {
-        return start;
-    }
-    byte_before(room, start, b'-')
 }

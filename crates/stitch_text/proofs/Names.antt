@@ -1,10 +1,10 @@
 -- Names from elsewhere that several files of these proofs use.
 pub use Rattle.std.proofs.lemmas.Bool.{and_from, and_parts, cases_order, not-true}
 pub use Rattle.std.proofs.lemmas.Bool.Decides.{Decides-eqb, nat_tests}
-pub use Rattle.std.proofs.lemmas.Fmt.{decimal-digits_value, decimal_digit, digits_decimal, first_decimal, length-decimal-le}
+pub use Rattle.std.proofs.lemmas.Fmt.{decimal-digits_value, decimal_digit, digits_decimal, first_decimal}
 pub use Rattle.std.proofs.lemmas.Fmt.{length_signed_le}
 pub use Rattle.std.proofs.lemmas.Int.{ints}
-pub use Rattle.std.proofs.lemmas.List.{drop-drop, drop-set, drop_all, length-drop}
+pub use Rattle.std.proofs.lemmas.List.{drop-drop, drop_all, length-drop}
 pub use Rattle.std.proofs.lemmas.List.Elements.{All-cons, All-head, All-nil, All-tail, All-weaker}
 pub use Rattle.std.proofs.lemmas.List.Folds.{list_all-append}
 pub use Rattle.std.proofs.lemmas.List.Splits.{join_with_byte-slice_split, slice_split_at, slice_split_none}

@@ -1,5 +1,5 @@
 -- Numbers as words: the number of a word, and the canonical word of a number.
-use Rattle.std.proofs.Common.{◌≡◌, ℕ, ℤ, pos, negsuc, zero, suc, ◌<◌, ◌≤◌, ◌^◌, ◌==◌, ◌||◌, Bool, true, false, not, unsigned_abs, List, [], ◌∷◌, length, get_or, if◌then◌else◌, int_le, subst, ap, sym, refl, ◌∙◌, inl, inr, arith}
+use Rattle.std.proofs.Common.{◌≡◌, ℕ, ℤ, pos, negsuc, zero, suc, ◌<◌, ◌≤◌, ◌^◌, ◌==◌, ◌||◌, Bool, true, false, not, unsigned_abs, List, [], ◌∷◌, length, get_or, if◌then◌else◌, subst, ap, sym, refl, ◌∙◌, inl, inr, arith}
 use Rattle.std.specs.Fmt.{decimal}
 use Rattle.std.specs.Str.{all_ascii_digits}
 use Rattle.std.specs.Str.Parse.{digits_value}
@@ -11,10 +11,6 @@ use Rattle.design_model.specs.WholeNumbers.{is_digit_string, signed_number, pars
 pub signed_inner : (z : ℤ) → unsigned_abs z < 2 ^ 63 → list_all is_word_byte (signed_decimal z) ≡ true
 signed_inner (pos n) small = digits_inner (decimal n) (digits_decimal decimal_model n (omega (arith, small)))
 signed_inner (negsuc n) small = digits_inner (decimal (suc n)) (digits_decimal decimal_model (suc n) (omega (arith, small)))
-
--- a number below zero is a minus sign and the digits of its size
-pub minus_first : (z : ℤ) → int_le (pos 0) z ≡ false → 45 ∷ decimal (unsigned_abs z) ≡ signed_decimal z
-minus_first z h1 = grind (arith, nat_tests, ints)
 
 -- digits begin with no minus sign
 no_minus : (ds : List ℕ) → all_ascii_digits ds ≡ true → 0 < length ds → parsed_whole ds ≡ parsed_digits false ds

@@ -1,9 +1,8 @@
 ghost use Rattle.std.specs.Fmt.{signed_decimal};
-ghost use Rattle.std.specs.Prelude.{◌≡◌, ◌≤◌, ◌<◌, ◌+◌, ◌∷◌, ◌++◌, [], drop, length, OnOk};
+ghost use Rattle.std.specs.Prelude.{◌≡◌, ◌≤◌, ◌∷◌, ◌++◌, [], drop, length, OnOk};
 ghost use Rattle.stitch_text.specs.StitchLists.{point_line};
 
-use design_model::{Bytes, Memory, Point};
-use itoa::write_digits;
+use design_model::{Bytes, Memory, Point, byte_before, number_before};
 
 /// More bytes than two numbers, a space before each and the end of the line need.
 const ROOM: usize = 32;
@@ -29,32 +28,7 @@ fn point_before(room: &mut [u8], end: usize, at: Point) -> usize
         ≡ 32 ∷ (signed_decimal at.x ++ (32 ∷ (signed_decimal at.y ++ drop end room.old))) }
 {
     let y = number_before(room, end, at.y);
-    let gap = space_before(room, y);
+    let gap = byte_before(room, y, b' ');
     let x = number_before(room, gap, at.x);
-    space_before(room, x)
-}
-
-fn space_before(room: &mut [u8], end: usize) -> usize
-    requires some { 0 < end }
-    requires there { end ≤ length room.old }
-    ensures start { result + 1 ≡ end }
-    ensures written { drop result room.new ≡ 32 ∷ drop end room.old }
-{
-    room[end - 1] = b' ';
-    end - 1
-}
-
-fn number_before(room: &mut [u8], end: usize, number: i32) -> usize
-    requires some { 11 ≤ end }
-    requires there { end ≤ length room.old }
-    ensures start { result + length (signed_decimal number) ≡ end }
-    ensures most { end ≤ result + 11 }
-    ensures written { drop result room.new ≡ signed_decimal number ++ drop end room.old }
-{
-    let start = write_digits(number.unsigned_abs() as u64, room, end);
-    if number >= 0 {
-        return start;
-    }
-    room[start - 1] = b'-';
-    start - 1
+    byte_before(room, x, b' ')
 }
