@@ -2,11 +2,11 @@
 use Rattle.std.proofs.Common.{ℕ, ◌==◌, ◌&&◌, Bool, true, false, cond, List, [], ◌∷◌, All, drop}
 use Rattle.std.proofs.lemmas.List.Elements.{All-cons, All-nil}
 use Rattle.std.specs.List.{count_by}
-use Rattle.line_sections.specs.Lines.{LineValue}
+use Rattle.line_sections.specs.Lines.{LineValue, is_same_line}
 use Rattle.drawing_comments.proofs.CommentLemmas.{first_are, left_are, none_are}
 use Rattle.drawing_comments.specs.CommentLaws.{AreComments}
 use Rattle.drawing_comments.specs.CommentedTexts.{first_comment}
-use Rattle.drawing_comments.specs.OrderedComments.{CutsKeepComments, SectionsKeepComments, comment_if, comment_of_same, is_same_line, ahead_after, ordered_comments, past_if, section_comments}
+use Rattle.drawing_comments.specs.OrderedComments.{CutsKeepComments, SectionsKeepComments, comment_if, comment_of_same, ahead_after, ordered_comments, past_if, section_comments}
 
 comment_if_is : (begins : Bool) (comments : List (List ℕ)) → All AreComments comments → AreComments (comment_if begins comments)
 comment_if_is true comments are = first_are comments are

@@ -2,9 +2,7 @@
 -- found by their block and their points.
 use Rattle.std.specs.Prelude.{ℕ, ◌-◌, ◌==◌, ◌&&◌, Bool, true, false, List, [], ◌∷◌, drop, length, if◌then◌else◌}
 use Rattle.std.specs.List.{count_by}
-use Rattle.design_model.specs.declared.point.Point.{Point}
-use Rattle.design_model.specs.Points.{is_same_point}
-use Rattle.line_sections.specs.Lines.{LineValue}
+use Rattle.line_sections.specs.Lines.{LineValue, is_same_line}
 use Rattle.drawing_comments.specs.declared.text_comments.TextComments.{TextComments}
 use Rattle.drawing_comments.specs.CommentedTexts.{first_comment}
 use Rattle.drawing_comments.specs.CommentLaws.{AreTextComments}
@@ -42,17 +40,6 @@ abbrev pub comments_of_cut : TextComments → (lines sections : List LineValue) 
 comments_of_cut c lines sections = record c {
   lines = section_comments 0 lines c.lines sections;
 }
-
--- Two lists have the same points.
-abbrev pub are_same_points : List Point → List Point → Bool
-are_same_points [] [] = true
-are_same_points [] (q ∷ qs) = false
-are_same_points (p ∷ ps) [] = false
-are_same_points (p ∷ ps) (q ∷ qs) = is_same_point p q && are_same_points ps qs
-
--- Two lines are in one block and have the same points.
-abbrev pub is_same_line : LineValue → LineValue → Bool
-is_same_line a b = a.block == b.block && are_same_points a.points b.points
 
 -- The comment of that line among lines which is the same as a line, and after which so many more
 -- are.

@@ -1,13 +1,14 @@
 ghost use Rattle.drawing_comments.specs.CommentLaws.{AreTextComments};
 ghost use Rattle.drawing_comments.specs.CommentedTexts.{first_comment};
-ghost use Rattle.drawing_comments.specs.OrderedComments.{are_same_points, comment_if, comment_of_same, comments_of_sections, first_segments, is_same_line, ahead_after, comments_of_cut, ordered_comments, past_if, section_comments};
+ghost use Rattle.drawing_comments.specs.OrderedComments.{comment_if, comment_of_same, comments_of_sections, first_segments, ahead_after, comments_of_cut, ordered_comments, past_if, section_comments};
+ghost use Rattle.line_sections.specs.Lines.{is_same_line};
 ghost use Rattle.std.specs.List.{count_by};
 ghost use Rattle.std.specs.Prelude.{◌-◌, if◌then◌else◌, ◌≡◌, ◌++◌, ◌∷◌, [], IfOk, OnOk};
 
 use crate::moving::{Comments, all_copied, copied};
 use crate::text_comments::TextComments;
 use crate::theorems::{cuts_keep_comments, sections_keep_comments};
-use design_model::{Bytes, Memory, Point};
+use design_model::{Bytes, Memory};
 use line_sections::Line;
 use std::alloc::Global;
 
@@ -213,7 +214,7 @@ fn of_same(
     let mut left = comments;
     let mut rest = lines;
     while let [other, after @ ..] = rest {
-        let here = is_same(line, other);
+        let here = line.is_same(other);
         same = past_same(here, same);
         if here && same == more {
             let comment = first_copied(alloc, left)?;
@@ -245,29 +246,5 @@ fn first_copied(alloc: Global, comments: &[Bytes]) -> Result<Bytes, Memory>
 fn count_same(line: &Line, lines: &[Line]) -> usize
     ensures { result ≡ count_by (is_same_line line.now) lines.now }
 {
-    lines.iter().filter(|other| is_same(line, other)).count()
-}
-
-fn is_same(a: &Line, b: &Line) -> bool
-    ensures { result ≡ is_same_line a.now b.now }
-{
-    a.block() == b.block() && have_same_points(a.points(), b.points())
-}
-
-fn have_same_points(a: &[Point], b: &[Point]) -> bool
-    ensures { result ≡ are_same_points a.now b.now }
-{
-    let mut left = a;
-    let mut rest = b;
-    while let [p, later @ ..] = left {
-        let [q, after @ ..] = rest else {
-            return false;
-        };
-        if *p != *q {
-            return false;
-        }
-        left = later;
-        rest = after;
-    }
-    rest.is_empty()
+    lines.iter().filter(|other| line.is_same(other)).count()
 }

@@ -1,5 +1,6 @@
 pub mod Names
 pub mod CallerLemmas
+mod LineFacts
 mod SectionFacts
 mod MarkFacts
 mod SpotLemmas

@@ -1,4 +1,5 @@
-ghost use Rattle.std.specs.Prelude.{◌≡◌};
+ghost use Rattle.line_sections.specs.Lines.{are_same_points, is_same_line};
+ghost use Rattle.std.specs.Prelude.{◌≡◌, ◌↔◌, IsTrue};
 
 use design_model::{Point, Points};
 use std::marker::Model;
@@ -39,4 +40,31 @@ impl Line {
     {
         self.points.as_slice()
     }
+
+    /// Returns whether the other line is in the same block and has the same points in the same order.
+    pub fn is_same(&self, other: &Line) -> bool
+        ensures value { result ≡ is_same_line self.now other.now }
+        ensures decides { IsTrue result ↔ (self.now ≡ other.now) }
+    {
+        self.block == other.block && have_same_points(self.points(), other.points())
+    }
+}
+
+fn have_same_points(a: &[Point], b: &[Point]) -> bool
+    ensures value { result ≡ are_same_points a.now b.now }
+    ensures decides { IsTrue result ↔ (a.now ≡ b.now) }
+{
+    let mut left = a;
+    let mut rest = b;
+    while let [p, later @ ..] = left {
+        let [q, after @ ..] = rest else {
+            return false;
+        };
+        if *p != *q {
+            return false;
+        }
+        left = later;
+        rest = after;
+    }
+    rest.is_empty()
 }

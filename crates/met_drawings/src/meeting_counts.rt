@@ -1,4 +1,3 @@
-ghost use Rattle.design_model.specs.Points.{is_same_point};
 ghost use Rattle.line_meetings.specs.Meetings.{meetings_of_lines};
 ghost use Rattle.line_sections.specs.Lines.{points_of_lines};
 ghost use Rattle.met_drawings.specs.MeetingCounts.{has_moved, is_crossing, is_left, is_put, is_repeat, left_count, meeting_counts_of, points_worked, segment_count};
@@ -6,7 +5,7 @@ ghost use Rattle.std.specs.List.{count_by};
 ghost use Rattle.std.specs.Prelude.{◌≡◌, ◌≤◌, ◌↔◌, IfOk, IsTrue, length};
 
 use crate::listed_meetings::MeetingRule;
-use design_model::{Items, Memory, Point, Points};
+use design_model::{Items, Memory, Points};
 use drawing_review::counted_from_least;
 use line_meetings::{Meeting, MeetingKind, find_meetings};
 use line_sections::Line;
@@ -144,37 +143,13 @@ fn are_same_lines(one: &[Line], other: &[Line]) -> bool
         let [like, after_like @ ..] = b else {
             return false;
         };
-        if !are_same_points(line.points(), like.points()) || line.block() != like.block() {
+        if !line.is_same(like) {
             return false;
         }
         a = after;
         b = after_like;
     }
     b.is_empty()
-}
-
-fn are_same_points(one: &[Point], other: &[Point]) -> bool
-    ensures { IsTrue result ↔ (one.now ≡ other.now) }
-{
-    let mut a = one;
-    let mut b = other;
-    while let [p, after @ ..] = a {
-        let [q, after_like @ ..] = b else {
-            return false;
-        };
-        if !is_same(*p, *q) {
-            return false;
-        }
-        a = after;
-        b = after_like;
-    }
-    b.is_empty()
-}
-
-fn is_same(p: Point, q: Point) -> bool
-    ensures { result ≡ is_same_point p q }
-{
-    p == q
 }
 
 fn crossings_among(meetings: &[Meeting]) -> usize

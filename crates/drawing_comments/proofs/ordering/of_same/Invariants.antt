@@ -1,6 +1,7 @@
 use Rattle.std.proofs.Common.{◌≡◌, length}
 use Rattle.std.specs.List.{count_by}
-use Rattle.drawing_comments.specs.OrderedComments.{comment_of_same, is_same_line}
+use Rattle.line_sections.specs.Lines.{is_same_line}
+use Rattle.drawing_comments.specs.OrderedComments.{comment_of_same}
 use Rattle.drawing_comments.proofs.ordering.of_same.Given as goal
 
 -- the comment is that of one of the lines that are left, among which the same ones are counted
