@@ -22,7 +22,8 @@ use Rattle.design_picture.specs.ArrowSquares.{square_of_pass, square_number}
 use Rattle.design_picture.specs.Hoops.{fit_words, hoop_end, hoop_key, hoop_key_end, hoop_key_start, hoop_start, hoop_text, is_beyond_hoop, offset_text, rim_of, too_large}
 use Rattle.design_picture.specs.Layers.{layer_text}
 use Rattle.design_picture.specs.Layouts.{area_of}
-use Rattle.design_picture.specs.Passes.{earlier_passes, forward_stitch, is_forward, passes_by, passes_toward, passes_with, with_pass}
+use Rattle.design_picture.specs.KeptPasses.{forward_stitch, is_forward, passes_by, passes_toward, with_pass}
+use Rattle.design_picture.specs.Passes.{earlier_passes, passes_with}
 use Rattle.design_picture.specs.Threads.{arc_text, arrow_shape, bow_of, hole_shape}
 use Rattle.hoop_check.specs.declared.fitting.Fit.TheVariants as fit
 use Rattle.design_model.specs.Lengths.{length_of, square_of, whole_root}

@@ -14,7 +14,8 @@ use Rattle.design_picture.specs.declared.links.PointPair.{PointPair}
 use Rattle.design_picture.specs.declared.links.TheConstants.{MAX_PASSES, NO_PASSES}
 use Rattle.design_picture.specs.declared.sewn_stitches.SewnStitches.{SewnStitches}
 use Rattle.design_picture.specs.Strokes.{SewnSoFar, none_passed, sewn_by}
-use Rattle.design_picture.specs.Passes.{earlier_passes, forward_stitch, is_forward, is_same_stitch, passes_by, passes_toward, passes_with, turned_stitch, with_pass}
+use Rattle.design_picture.specs.KeptPasses.{forward_stitch, is_forward, passes_by, passes_toward, with_pass}
+use Rattle.design_picture.specs.Passes.{earlier_passes, is_same_stitch, passes_with, turned_stitch}
 
 abbrev pair : Point → Point → PointPair
 pair from to = record { from = from; to = to }
@@ -48,7 +49,7 @@ where_back : (s : PointPair) → is_forward s ≡ false → forward_stitch s ≡
 where_back s is = ap (λ (t : Bool). if t then s else turned_stitch s) is
 
 -- A stitch and the opposite one are kept as one.
-pub turned_forward : (s : PointPair) → forward_stitch (turned_stitch s) ≡ forward_stitch s
+turned_forward : (s : PointPair) → forward_stitch (turned_stitch s) ≡ forward_stitch s
 turned_forward s = by_test (is_forward s) refl (is_forward (turned_stitch s)) refl
   where
     by_test : (a : Bool) → is_forward s ≡ a → (b : Bool) → is_forward (turned_stitch s) ≡ b

@@ -8,7 +8,8 @@ use Rattle.design_model.specs.declared.command.Command.TheVariants as command
 use Rattle.design_model.specs.declared.point.Point.{Point}
 use Rattle.design_picture.specs.ArrowSquares.{is_same_square}
 use Rattle.design_picture.specs.Hoops.{hoop_class, hoop_end, hoop_start, hoop_text, offset_text, hoop_key_end, hoop_key_start, rim_of, too_large}
-use Rattle.design_picture.specs.Passes.{is_same_stitch, passes_by}
+use Rattle.design_picture.specs.KeptPasses.{passes_by}
+use Rattle.design_picture.specs.Passes.{is_same_stitch}
 use Rattle.design_picture.specs.Pictures.{hoop_if_given, last_mark, design_top, hoop_key_if_given, outside_if_given, outside_layer, thread_paths}
 use Rattle.design_picture.specs.PlainPictures.{scale_description}
 use Rattle.design_picture.specs.ShownActs.{StrokesShowActs, plain_act, shown_act}

@@ -12,5 +12,7 @@ pub mod Crowds
 pub mod Strokes
 pub mod Pens
 pub mod ShownActs
+-- How often a stitch was sewn before, and how that is kept.
 pub mod Passes
+pub mod KeptPasses
 pub mod ArrowSquares

@@ -18,7 +18,8 @@ use Rattle.design_picture.specs.declared.strokes.SewnStitch.{SewnStitch}
 use Rattle.design_picture.specs.declared.strokes.Stroke.{Stroke}
 use Rattle.design_picture.specs.declared.strokes.Stroke.TheVariants.{Begin, Float, Sewn, Trim, Stop}
 use Rattle.design_picture.specs.ArrowSquares.{arrows_with, has_arrow, is_same_square, square_of_pass}
-use Rattle.design_picture.specs.Passes.{earlier_passes, is_same_stitch, passes_by, passes_with}
+use Rattle.design_picture.specs.KeptPasses.{passes_by}
+use Rattle.design_picture.specs.Passes.{earlier_passes, is_same_stitch, passes_with}
 use Rattle.design_picture.specs.Pens.{first_pen, pen_after}
 
 -- What was sewn so far: the passes of each stitch, and the squares that have an arrow.

@@ -1,4 +1,5 @@
-ghost use Rattle.design_picture.specs.Passes.{earlier_passes, forward_stitch, is_forward, is_same_stitch, passes_by, passes_toward, passes_with, turned_stitch, with_pass};
+ghost use Rattle.design_picture.specs.KeptPasses.{forward_stitch, is_forward, passes_by, passes_toward, with_pass};
+ghost use Rattle.design_picture.specs.Passes.{earlier_passes, is_same_stitch, passes_with, turned_stitch};
 ghost use Rattle.std.specs.HashMap.{get};
 ghost use Rattle.std.specs.Prelude.{◌≡◌, ◌≤◌, IfOk, OnOk, unwrap_or};
 
@@ -34,11 +35,11 @@ const NO_PASSES: Passes = Passes {
 
 impl Passes {
     /// Returns the passes in one direction, as far as they are distinguished.
-    fn toward(&self, forward: bool) -> u32
-        ensures value { result ≡ passes_toward forward self.now }
+    fn toward(&self, goes_forward: bool) -> u32
+        ensures value { result ≡ passes_toward goes_forward self.now }
         ensures most { result ≤ MAX_PASSES }
     {
-        if forward {
+        if goes_forward {
             self.forward.min(MAX_PASSES)
         } else {
             self.back.min(MAX_PASSES)
@@ -46,11 +47,11 @@ impl Passes {
     }
 
     /// Returns the passes with one more in one direction.
-    fn with(&self, forward: bool) -> Passes
-        ensures { result ≡ with_pass forward self.now }
+    fn with(&self, goes_forward: bool) -> Passes
+        ensures { result ≡ with_pass goes_forward self.now }
     {
-        let passes = (self.toward(forward) + 1).min(MAX_PASSES);
-        if forward {
+        let passes = (self.toward(goes_forward) + 1).min(MAX_PASSES);
+        if goes_forward {
             Passes {
                 forward: passes,
                 back: self.back,
@@ -71,7 +72,7 @@ pub(crate) fn pass(passes: &mut SewnPasses, stitch: PointPair) -> Result<u32, Me
     ensures kept { OnOk result (passes_by (get is_same_stitch passes.new)
         ≡ passes_with (passes_by (get is_same_stitch passes.old)) stitch) }
 {
-    let kept = kept_passes(passes, forward(stitch));
+    let kept = kept_passes(passes, forward_of(stitch));
     let along = kept.toward(leads_forward(stitch));
     let against = kept.toward(leads_forward(turned(stitch)));
     count(passes, stitch, kept)?;
@@ -88,14 +89,14 @@ fn count(passes: &mut SewnPasses, stitch: PointPair, kept: Passes) -> Result<(),
     if kept.toward(is_forward) == MAX_PASSES {
         return Ok(());
     }
-    passes.insert(forward(stitch), kept.with(is_forward))?;
+    passes.insert(forward_of(stitch), kept.with(is_forward))?;
     Ok(())
 }
 
-fn kept_passes(passes: &SewnPasses, forward: PointPair) -> Passes
-    ensures { result ≡ unwrap_or (get is_same_stitch passes.now forward) NO_PASSES }
+fn kept_passes(passes: &SewnPasses, key: PointPair) -> Passes
+    ensures { result ≡ unwrap_or (get is_same_stitch passes.now key) NO_PASSES }
 {
-    passes.get(&forward).copied().unwrap_or(NO_PASSES)
+    passes.get(&key).copied().unwrap_or(NO_PASSES)
 }
 
 fn leads_forward(stitch: PointPair) -> bool
@@ -105,7 +106,7 @@ fn leads_forward(stitch: PointPair) -> bool
 }
 
 /// Returns a stitch or the opposite one: that which leads forward, if one does.
-fn forward(stitch: PointPair) -> PointPair
+fn forward_of(stitch: PointPair) -> PointPair
     ensures { result ≡ forward_stitch stitch }
 {
     if leads_forward(stitch) {
