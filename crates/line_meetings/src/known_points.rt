@@ -11,7 +11,7 @@ use std::alloc::Global;
 use std::collections::HashMap;
 
 /// The greatest number of points for which those joined to them are kept.
-const MAX_KNOWN: usize = 1_024;
+const MAX_KNOWN: usize = 4_096;
 
 /// The greatest number of points joined to one that are kept.
 const MAX_JOINED: usize = 1_024;
