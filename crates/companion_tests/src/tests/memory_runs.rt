@@ -11,7 +11,7 @@ pub fn sink(alloc: Global, room: u32, fails: u64) -> Result<MemSink, Fail> {
 }
 
 /// Returns whether a text is a line, with the usage text after it where the status says so.
-pub fn is_told(text: &[u8], line: &str, status: u8, usage: &str) -> bool {
+pub fn is_report(text: &[u8], line: &str, status: u8, usage: &str) -> bool {
     if status != 2 {
         return text == line.as_bytes();
     }

@@ -1,6 +1,6 @@
 //! Runs of `stitch_picture` over files in memory: their status, and the line or text on the standard error.
 use super::comparisons::compare_row;
-use super::memory_runs::{is_told, sink};
+use super::memory_runs::{is_report, sink};
 use crate::contents::file_content;
 use memchr::memmem;
 use outside_io::{MemSink, MemStore};
@@ -252,8 +252,8 @@ fn compare_run(
     let mut out = sink(alloc, 100, 0)?;
     let mut err = sink(alloc, 1_000, 0)?;
     let found = answer(alloc, words, store, &mut out, &mut err)?;
-    let told = is_told(err.taken(), line, status, TEXT_OF_USAGE);
-    compare_row(rt, (words, err.taken()), told, true);
+    let is_right = is_report(err.taken(), line, status, TEXT_OF_USAGE);
+    compare_row(rt, (words, err.taken()), is_right, true);
     compare_row(rt, words, found, status);
     compare_row(rt, words, out.taken(), b"");
     Ok(())

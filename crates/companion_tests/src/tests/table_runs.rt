@@ -1,6 +1,6 @@
 //! Runs of commands of `stitch_drawing` over files in memory, by tables.
 use super::comparisons::compare_row;
-use super::memory_runs::{is_told, sink};
+use super::memory_runs::{is_report, sink};
 use super::{cross_runs, edit_runs, free_runs, look_runs, near_runs, snap_runs, space_runs};
 use crate::contents::file_content;
 use drawing_commands::run;
@@ -89,8 +89,8 @@ fn compare_run(
     let mut err = sink(alloc, 1_000, fails[2])?;
     let ended = answer(alloc, words, store, &mut out, &mut err)?;
     compare_row(rt, words, out.taken(), printed.as_bytes());
-    let told = is_told(err.taken(), reported, status, USAGE);
-    compare_row(rt, (words, err.taken()), told, true);
+    let is_right = is_report(err.taken(), reported, status, USAGE);
+    compare_row(rt, (words, err.taken()), is_right, true);
     compare_row(rt, words, ended, status);
     if let Some(text) = content {
         compare_row(rt, words, file_content(store, "out.rw"), text.as_bytes());
