@@ -18,6 +18,7 @@ import svg_drawing  # noqa: E402
 NAMES = ["bird", "name", "wreath", "quilt", "snail"]
 SVG, INKSCAPE = "{http://www.w3.org/2000/svg}", "{http://www.inkscape.org/namespaces/inkscape}"
 HEAD = '<svg xmlns="http://www.w3.org/2000/svg" width="100mm" height="100mm" viewBox="0 0 50 50" stroke="black" fill="none">'
+SECONDS = 300
 failed = 0
 
 
@@ -31,7 +32,7 @@ def expect(what, wanted, found):
 
 def run(*words, **options):
     """The status of a program and what it writes, as text."""
-    done = subprocess.run(words, cwd=FOLDER, capture_output=True, text=True, timeout=60, check=False, **options)
+    done = subprocess.run(words, cwd=FOLDER, capture_output=True, text=True, timeout=SECONDS, check=False, **options)
     return done.returncode, done.stdout, done.stderr
 
 

@@ -1,4 +1,5 @@
-"""Tests python/stitch.py, each function once, against the built programs where they are there, and convert_folder.py."""
+"""Tests python/stitch.py, each function once, against the built programs, and convert_folder.py: python_cases.py HOME [WORD..].
+Runs the tests whose names have one of the words, or all."""
 import os
 import subprocess
 import sys
@@ -6,7 +7,7 @@ import tempfile
 
 import stitch
 
-HOME = sys.argv[1]
+HOME, WORDS = sys.argv[1], sys.argv[2:]
 DRAWING = b"redwork 3\nstep 10\ncolor 5\nline 0 0 20 0\n"
 LIST = (b"stitch-list 1\nlabel []\nblock 5\nneedle 0 0\nneedle 30 0\nneedle 60 0\nneedle 30 0\nneedle 0 0\ntrim\n"
         b"end\n")
@@ -31,10 +32,8 @@ def raised(call, *arguments, **more):
 
 
 def by_program(program, words, files):
-    """The status, the output, the report and the written files of a built program, or None where it isn't built."""
-    path = os.path.join(HOME, "crates", program, "out", program)
-    if not os.access(path, os.X_OK):
-        return None
+    """The status, the output, the report and the written files of a built program."""
+    path = os.path.join(os.environ.get("STITCH_BIN") or os.path.join(HOME, "crates", program, "out"), program)
     with tempfile.TemporaryDirectory() as folder:
         for name, content in files.items():
             open(os.path.join(folder, name), "wb").write(content)
@@ -46,9 +45,7 @@ def by_program(program, words, files):
 
 def as_program(program, words, files):
     """Compares a run of the library with one of the built program."""
-    wanted = by_program(program, words, files)
-    if wanted:
-        same(f"{program} {' '.join(words)}", stitch.run(program, words, files), wanted)
+    same(f"{program} {' '.join(words)}", stitch.run(program, words, files), by_program(program, words, files))
 
 
 def test_functions():
@@ -95,8 +92,8 @@ def test_refusals():
 
 
 def by_line(program, words, files):
-    """What a function raises where the built program refuses, or what the library says where it isn't built."""
-    reply = by_program(program, words, files) or stitch.run(program, words, files)
+    """What a function raises where the built program refuses."""
+    reply = by_program(program, words, files)
     return "Refused", reply.err.rstrip("\n").removeprefix(f"{program}: ")
 
 
@@ -133,6 +130,7 @@ def test_folder():
 
 
 for test in (test_functions, test_refusals, test_programs, test_folder):
-    test()
+    if not WORDS or any(word in test.__name__ for word in WORDS):
+        test()
 print(f"python: {failed} failed" if failed else "python: all as wanted")
 sys.exit(bool(failed))

@@ -1,7 +1,7 @@
 #!/usr/bin/env python3
-"""Compares the checker beside it with `stitch check`: `python3 compare.py PROGRAM EXAMPLES`.
+"""Compares the checker beside it with `stitch check`: `python3 compare.py PROGRAM EXAMPLES [COUNT]`.
 
-Both judge the routes of all examples in the five formats, and those of generated drawings. Each of these is
+Both judge the routes of all examples in the five formats, and those of COUNT generated drawings. Each of these is
 judged again with one place of its drawing, design or certificate spoiled. Status and line must be equal.
 """
 import collections
@@ -266,10 +266,10 @@ class Comparison:
             self.reasons[re.sub(r"\S*/\S*|\d+", "N", ours[1])] += 1
 
 
-def triples(comparison):
+def triples(comparison, count):
     """Sews generated drawings and yields the names of their files, their contents and their endings."""
     cases, requests = [], []
-    for place in range(TRIPLES):
+    for place in range(count):
         rng = random.Random(place)
         ending = ENDINGS[place % 5]
         names = comparison.names(place, ending)
@@ -289,7 +289,7 @@ def judge_as_printed(names):
         sys.exit(f"checker: check.py {' '.join(names)}: {done}")
 
 
-def compare(run_all, folder, examples):
+def compare(run_all, folder, examples, count=TRIPLES):
     """Compares the verdicts on examples, on generated triples and on spoiled ones."""
     comparison = Comparison(run_all, folder)
     drawings = sorted(name for name in os.listdir(examples) if name.endswith(".rw"))
@@ -299,7 +299,7 @@ def compare(run_all, folder, examples):
     comparison.judge(cases, "yes")
     for names in cases[::6] + [[examples] + cases[0][1:], [cases[0][0]] * 3, [cases[0][2]] + cases[0][1:]]:
         judge_as_printed(names)
-    made = triples(comparison)
+    made = triples(comparison, count)
     comparison.judge([names for _, names, _ in made])
     spoiled = []
     for place, (rng, names, ending) in enumerate(made):
@@ -310,7 +310,7 @@ def compare(run_all, folder, examples):
     return comparison.reasons
 
 
-def main(program, examples):
+def main(program, examples, count=TRIPLES):
     """Compares in a new folder, which stays only where a verdict differs."""
     def run_all(requests):
         """The status and the last line of each request."""
@@ -320,7 +320,7 @@ def main(program, examples):
             yield done.returncode, lines[-1] if lines else ""
 
     folder = tempfile.mkdtemp(prefix="checker")
-    reasons = compare(run_all, folder, examples)
+    reasons = compare(run_all, folder, examples, int(count))
     for name in os.listdir(folder):
         os.remove(os.path.join(folder, name))
     os.rmdir(folder)
