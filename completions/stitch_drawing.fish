@@ -9,7 +9,7 @@ end
 
 complete -c stitch_drawing -f
 function __stitch_drawing_does
-    test (commandline -opc)[2] = $argv[1]
+    contains -- (commandline -opc)[2] $argv
 end
 
 complete -c stitch_drawing -n '__stitch_drawing_at 1' -a 'look snap cross space free near edit --help --version'
