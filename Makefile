@@ -71,7 +71,7 @@ inkscape: ## install the extension of Inkscape into the folder DIR, that of your
 	$(call extend,$(DIR)/redwork,$(abspath $(dir $(PROGRAMS))))
 
 library: ## prove the library and put it with its header and pkg-config file below FOLDER, out/library if not given
-	cd crates/stitch_c && rt lib
+	./build stitch_c
 	install -d "$(FOLDER)/include" "$(FOLDER)/lib/pkgconfig"
 	install -m 644 include/stitch.h "$(FOLDER)/include"
 	printf '%s\n' "$$pkgconfig" > "$(FOLDER)/lib/pkgconfig/stitch.pc"
