@@ -2,18 +2,26 @@
 """Makes a WebAssembly module whose memory has 32-bit addresses of one with 64-bit addresses: page/narrow.py IN OUT.
 
 An address is shortened where it is used, so all other numbers stay as wide as they are, and functions take and return what they
-did. Browsers run such a module from earlier versions on, and faster, since they need no test at each access. Its memory has at
-most 4 GiB. The encoding is that of the WebAssembly Core Specification 3.0, chapter 5. What isn't expected ends with an error.
+did. One above 32 bits ends with a trap, as it would in any memory of 4 GiB: it is compared first, unless it is in a local that was.
+To grow beyond 4 GiB returns -1. Browsers run such a module from earlier versions on. The encoding is that of the WebAssembly Core
+Specification 3.0, chapter 5. What isn't expected ends with an error.
 """
 import sys
 
 WRAP, EXTEND, EXTEND_SIGNED = b"\xa7", b"\xad", b"\xac"  # i32.wrap_i64, i64.extend_i32_u, i64.extend_i32_s
+GET, SET, TEE = b"\x20", b"\x21", b"\x22"  # local.get, local.set, local.tee
+TRAP_WIDE = b"\x42\xff\xff\xff\xff\x0f\x56\x04\x40\x00\x0b"  # i64.const 2^32 - 1, i64.gt_u, if, unreachable, end
+TOO_MANY = b"\x42\x81\x80\x04"  # i64.const 65537: one page more than 4 GiB has
+UP_TO_ALL = b"\x42\x80\x80\x04\x58\x1b"  # i64.const 65536, i64.le_u, select
 KINDS = {"i32": 0x7F, "i64": 0x7E, "f32": 0x7D, "f64": 0x7C, "v128": 0x7B}
 # What the instructions that store take from above the address, by their codes.
 STORED = dict(zip(range(0x36, 0x3F), ("i32", "i64", "f32", "f64", "i32", "i32", "i64", "i64", "i64")))
-# Instructions of one operand in LEB128: blocks, jumps, calls, constants, locals, globals and tables; and those of none.
-WITH_ONE = {0x02, 0x03, 0x04, 0x0C, 0x0D, 0x10, 0x41, 0x42, 0xD0, 0xD2, *range(0x20, 0x27)}
+# Instructions of one operand in LEB128: blocks, jumps, calls, constants, locals and globals; and those of none.
+WITH_ONE = {0x02, 0x03, 0x04, 0x0C, 0x0D, 0x10, 0x41, 0x42, 0xD0, 0xD2, *range(0x20, 0x25)}
 WITH_NONE = {0x00, 0x01, 0x05, 0x0B, 0x0F, 0x1A, 0x1B, 0xD1, *range(0x45, 0xC5)}
+# How many numbers an instruction takes that leaves one: constants and global.get, those of two, of one, and select.
+TAKES = {0x1B: 3, **dict.fromkeys((0x23, *range(0x41, 0x45)), 0), **dict.fromkeys(range(0x46, 0xA7), 2), **dict.fromkeys(
+    (*range(0x28, 0x36), 0x45, 0x50, *range(0x67, 0x6A), *range(0x79, 0x7C), *range(0x8B, 0x92), *range(0x99, 0xA0), *range(0xA7, 0xC5)), 1)}
 
 
 def leb(value):
@@ -59,10 +67,12 @@ class Reader:
 
 
 class Code:
-    """The code of a function so far, and the locals that are added to those that it has."""
+    """The code of a function so far, and the locals that are added to those that it has. Of the numbers on top of the stack it is
+    known which local has each, None being of none, and of the locals which have at most 32 bits. What isn't known is left out."""
 
     def __init__(self, locals_before):
         self.before, self.added, self.out = locals_before, [], bytearray()
+        self.top, self.short = [], set()
 
     def put(self, *parts):
         for part in parts:
@@ -76,21 +86,48 @@ class Code:
 
     def keep(self, *names):
         for name in names:
-            self.put(b"\x21", self.local(name))
+            self.put(SET, self.local(name))
 
     def get(self, name):
-        self.put(b"\x20", self.local(name))
+        self.put(GET, self.local(name))
+
+    def follow(self, byte, operand):
+        """What is known after an instruction of the module. Another way may lead to a loop, an else and an end."""
+        if byte in (0x21, 0x22):
+            self.short.discard(operand)
+            self.top = [None if one == operand else one for one in self.top[:-1]]
+        if byte in (0x20, 0x22):
+            self.top.append(operand)
+        elif byte in TAKES:
+            self.top = self.top[:max(len(self.top) - TAKES[byte], 0)] + [None]
+        elif byte != 0x21:
+            self.top = []
+        if byte in (0x03, 0x05, 0x0B):
+            self.short = set()
+
+    def shorten(self, local=None):
+        """Shortens the number on top, which the local has if there is one."""
+        if local is None:
+            self.put(TEE, self.local("i64 3"), TRAP_WIDE)
+            self.get("i64 3")
+        elif local not in self.short:
+            self.put(GET, leb(local), TRAP_WIDE)
+            self.short.add(local)
+        self.put(WRAP)
 
 
 def put_access(reader, start, code, stored=None):
     """An access to memory: the address is below what is stored, and its operands are as short as they can be."""
-    instruction = reader.since(start)
+    instruction, below = reader.since(start), 2 if stored else 1
     if stored:
         code.keep(stored)
-    code.put(WRAP)
+    code.shorten(code.top[-below] if len(code.top) >= below else None)
     if stored:
         code.get(stored)
-    code.put(instruction, leb(reader.number()), leb(reader.number()))
+    alignment, offset = reader.number(), reader.number()
+    if offset >= 1 << 32:
+        raise ValueError("an offset has more than 32 bits")
+    code.put(instruction, leb(alignment), leb(offset))
 
 
 def put_bulk(reader, start, code):
@@ -99,18 +136,18 @@ def put_bulk(reader, start, code):
     if kind == 10:
         reader.take(2)
         code.keep("i64", "i64 2")
-        code.put(WRAP)
+        code.shorten()
         code.get("i64 2")
-        code.put(WRAP)
+        code.shorten()
         code.get("i64")
-        code.put(WRAP)
+        code.shorten()
     elif kind == 11:
         reader.take(1)
         code.keep("i64", "i32")
-        code.put(WRAP)
+        code.shorten()
         code.get("i32")
         code.get("i64")
-        code.put(WRAP)
+        code.shorten()
     elif kind > 7:
         raise ValueError(f"instruction FC {kind} isn't expected")
     code.put(reader.since(start))
@@ -134,8 +171,15 @@ def put_vector(reader, start, code):
 
 
 def put_instruction(reader, code):
+    """An instruction, and what is known after it."""
     start = reader.at
     byte = reader.byte()
+    operand = Reader(reader.data[reader.at:reader.at + 10]).number() if byte in WITH_ONE else None
+    put_narrow(reader, start, byte, code)
+    code.follow(byte, operand)
+
+
+def put_narrow(reader, start, byte, code):
     if 0x28 <= byte <= 0x3E:
         return put_access(reader, start, code, STORED.get(byte))
     if byte == 0xFC:
@@ -145,9 +189,12 @@ def put_instruction(reader, code):
     if byte == 0x3F:  # memory.size
         return code.put(b"\x3f", reader.take(1), EXTEND)
     if byte == 0x40:  # memory.grow
-        return code.put(WRAP, b"\x40", reader.take(1), EXTEND_SIGNED)
+        code.put(TEE, code.local("i64 3"), TOO_MANY)
+        code.get("i64 3")
+        return code.put(UP_TO_ALL, WRAP, b"\x40", reader.take(1), EXTEND_SIGNED)
     if byte == 0x11:  # call_indirect, whose table has 32-bit numbers too
-        return code.put(WRAP, b"\x11", leb(reader.number()), leb(reader.number()))
+        code.shorten()
+        return code.put(b"\x11", leb(reader.number()), leb(reader.number()))
     if byte in WITH_ONE:
         reader.number()
     elif byte == 0x0E:  # br_table
