@@ -84,6 +84,12 @@ def test_functions():
     same("thread", stitch.threads(LIST, "lst"), "block 1 thread 5 Red #ed171f needles 5 length 120\n")
 
 
+def test_exports():
+    for program in ("stitch", "stitch_drawing", "stitch_picture", "stitch_design"):
+        reply = stitch.run(program, [], {})
+        same(f"the program that {program}_run runs", (reply.status, reply.err.startswith(f"usage: {program} ")), (2, True))
+
+
 def test_refusals():
     same("line", raised(stitch.route, b"redwork 3\nstep 10\nline 0 0\n", "dst"),
          by_line("stitch", ["route", "in.rw", "out.dst", "out.cert"], {"in.rw": b"redwork 3\nstep 10\nline 0 0\n"}))
@@ -129,7 +135,7 @@ def test_folder():
         same("folder's file", open(os.path.join(target, "a.dst"), "rb").read(), stitch.convert(LIST, "lst", "dst"))
 
 
-for test in (test_functions, test_refusals, test_programs, test_folder):
+for test in (test_functions, test_exports, test_refusals, test_programs, test_folder):
     if not WORDS or any(word in test.__name__ for word in WORDS):
         test()
 print(f"python: {failed} failed" if failed else "python: all as wanted")

@@ -1,4 +1,4 @@
-"""Stitch for Python: redwork with the fewest stitches, and embroidery files, by the proved programs.
+"""Stitch for Python: redwork of drawings, and embroidery files, by the proved programs.
 
 Lengths are tenths of a millimetre; x grows to the right and y down. Files are bytes in memory: nothing is read from a
 disk or written there. A refusal raises `Refused` with the line that the program prints, without the name of the program.
@@ -38,7 +38,7 @@ class Reply(NamedTuple):
 
 
 class Routed(NamedTuple):
-    """A design, the certificate that proves it least, and the report of both."""
+    """A design, the certificate of its threads, which proves a route least, and the report of both."""
     design: bytes
     certificate: bytes
     report: str
@@ -124,7 +124,8 @@ def _done(program: str, words: Sequence[str], files: Mapping[str, bytes]) -> Rep
 
 
 def route(drawing: bytes, format: str) -> Routed:
-    """Sews a drawing with the fewest stitches, as a file of the format `dst`, `exp`, `pec`, `pes` or `lst`."""
+    """Sews a drawing as a file of the format `dst`, `exp`, `pec`, `pes` or `lst`: one thread over each piece, from the start to the
+    end that the drawing gives, or back to where it began. No such thread over its points has fewer stitches."""
     return _sewn("route", drawing, format)
 
 
@@ -139,8 +140,8 @@ def _sewn(command: str, drawing: bytes, format: str) -> Routed:
 
 
 def check(drawing: bytes, design: bytes, format: str, certificate: bytes) -> None:
-    """Returns if the design sews the drawing with the fewest stitches, as the certificate proves; else raises `Refused`
-    with the first reason why not."""
+    """Returns if the design sews the drawing by threads of the kind that `route` makes, and the certificate proves that no such thread
+    has fewer stitches; else raises `Refused` with the first reason why not."""
     files = {"in.rw": drawing, f"in.{format}": design, "in.cert": certificate}
     _done("stitch", ["check", "in.rw", f"in.{format}", "in.cert"], files)
 
