@@ -20,7 +20,7 @@ HEAD = ('<svg xmlns="http://www.w3.org/2000/svg" xmlns:xlink="http://www.w3.org/
 PAGE = 'width="100mm" height="100mm" viewBox="0 0 100 100" stroke="black" fill="none">'
 NAMES = ["bird", "name", "wreath", "quilt", "snail", "house"]
 failed = 0
-signal.signal(signal.SIGALRM, lambda *_: (_ for _ in ()).throw(AssertionError("longer than 10 seconds")))
+signal.signal(signal.SIGPROF, lambda *_: (_ for _ in ()).throw(AssertionError("longer than 10 seconds of a processor")))
 
 
 def made(document, *options):
@@ -30,9 +30,9 @@ def made(document, *options):
         out.write(document if isinstance(document, bytes) else document.encode())
     if os.path.exists(target):
         os.remove(target)
-    signal.setitimer(signal.ITIMER_REAL, 10)
+    signal.setitimer(signal.ITIMER_PROF, 10)
     status, report = from_svg.run([source, target, *options])
-    signal.setitimer(signal.ITIMER_REAL, 0)
+    signal.setitimer(signal.ITIMER_PROF, 0)
     text = open(target).read() if os.path.exists(target) else ""
     if (status == 0) != (text != ""):
         wrong(document, "a file after a refusal, or none", status)
@@ -153,6 +153,12 @@ reports([NOTE, "size 3 3 middle 1 1"], '<path stroke="black" d="M0 0 1 1"/>', 'w
 reports(["#ff0000 thread 28 Vermilion", "#000000 thread 20 Black", "#a01818 thread 5 Red", "size 20 60 middle 10 30"],
         "".join(f'<path stroke="{colour}" d="M0 {k}h2"/>' for k, colour in enumerate(
             "#f00 black rgb(255,0,0) red #a01818 rgb(100%,0%,0%) hsl(0,100%,50%)".split())))
+# hues go from red by yellow to green and blue: by the definition of CSS, with 255 for 1
+for colour, wanted in (("hsl(120,100%,50%)", (0, 255, 0, 255)), ("hsl(240deg 100% 50% / 50%)", (0, 0, 255, 128)),
+                       ("hsl(60,100%,30%)", (153, 153, 0, 255)), ("hsl(-60,100%,30%)", (153, 0, 153, 255)),
+                       ("hsl(0,50%,75%)", (223, 159, 159, 255)), ("rgb(1,2,3)", (1, 2, 3, 255))):
+    if svg_style.colour_of(colour, None) != wanted:
+        wrong(colour, wanted, svg_style.colour_of(colour, None))
 draws(["color 28", "0 0 20 0", "0 20 20 20", "color 20", "0 10 20 10"],
       '<path stroke="#f00" d="M0 0h2"/><path d="M0 1h2"/><path stroke="rgb(255 0 0 / 1)" d="M0 2h2"/>')
 for number, thread in enumerate(svg_drawing.THREADS, 1):
@@ -292,6 +298,17 @@ for words in ("", "a", "a b c", "a b 0", "a b 2048", "a b --within=0.01", "a b -
         wrong(words, 2, from_svg.run(words.split()))
 
 
+def ends():
+    """Ends the tests, with status 1 if one failed."""
+    print(f"svg: {failed} failed")
+    sys.exit(failed > 0)
+
+
+# what takes long isn't tested once a case has failed
+if failed:
+    ends()
+
+
 def spoiled(text, chance):
     """A document with one to four faults."""
     for _ in range(chance.randint(1, 4)):
@@ -333,7 +350,7 @@ for count in range(2000):
         if status not in (0, 1) or any("\n" in line for line in report):
             wrong(document, "a status", (status, report))
     except Exception:
-        signal.setitimer(signal.ITIMER_REAL, 0)
+        signal.setitimer(signal.ITIMER_PROF, 0)
         wrong(document, "no exception", traceback.format_exc())
 
 
@@ -358,10 +375,10 @@ for name in ["bird", "quilt"] if shutil.which("inkscape") else []:
     for actions in ("export-plain-svg", "select-all:all;clone-unlink-recursively;select-all:no-groups;object-to-path"):
         saved = os.path.join(FOLDER, "saved.svg")
         subprocess.run(["inkscape", f"--actions={actions};export-filename:{saved};export-do",
-                        os.path.join(HOME, "examples", name + ".svg")], capture_output=True, timeout=60)
+                        os.path.join(HOME, "examples", name + ".svg")], capture_output=True, timeout=300)
         again = made(open(saved, "rb").read())[3]
         if not (same(drawn, again) and same(again, drawn)):
             wrong(name, "the same drawing after " + actions, again)
 
-print(f"svg: {failed} failed; of 2000 spoiled files {statuses.get(0, 0)} were drawn")
-sys.exit(failed > 0)
+print(f"svg: of 2000 spoiled files {statuses.get(0, 0)} were drawn")
+ends()
