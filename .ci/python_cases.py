@@ -11,6 +11,13 @@ HOME, WORDS = sys.argv[1], sys.argv[2:]
 DRAWING = b"redwork 3\nstep 10\ncolor 5\nline 0 0 20 0\n"
 LIST = (b"stitch-list 1\nlabel []\nblock 5\nneedle 0 0\nneedle 30 0\nneedle 60 0\nneedle 30 0\nneedle 0 0\ntrim\n"
         b"end\n")
+# A stitch that is too long for DST, and a float.
+LONG = b"stitch-list 1\nlabel []\nblock 5\nneedle 0 0\nneedle 200 0\nfloat 200 40\nneedle 200 80\ntrim\nend\n"
+# A line that is listed twice, and one that crosses it.
+TWICE = b"redwork 2\nstep 10\ncolor 5\nline 0 0 20 0\nline 20 0 0 0\nline 10 -10 10 10\n"
+# Lines that end 0.3 mm apart.
+APART = b"redwork 2\ncolor 5\nline 0 0 30 0\nline 30 3 60 3\n"
+WAVE = b"redwork 2\nstep 30\ncolor 5\nline 0 0 8 1 16 0 24 1 32 0 40 1 48 0 56 1 64 0\n"
 failed = 0
 
 
@@ -60,8 +67,12 @@ def test_functions():
     same("same list", stitch.convert(LIST, "lst", "lst"), LIST)
     same("edit", stitch.edit(LIST, "lst", "lst", "shift=0,5"), LIST.replace(b" 0\n", b" 5\n"))
     same("show", stitch.show(LIST, "lst").splitlines()[0], "format lst")
-    same("hoop", raised(stitch.hoop, LIST, "lst", 1000, 10), None)
+    same("hoop", [stitch.hoop(LIST, "lst", *sides) for sides in ((1000, 10), (10, 1000))], ["fits upright\n", "fits turned\n"])
     same("no hoop", raised(stitch.hoop, LIST, "lst", 10, 10)[0], "Refused")
+    same("cut", stitch.convert(LONG, "lst", "lst", cut=True), LONG.replace(b"float", b"trim\nneedle"))
+    same("split", stitch.convert(stitch.convert(LONG, "lst", "dst", split=True), "dst", "lst"),
+         LONG.replace(b"block 5", b"block 1").replace(b"needle 200 0", b"needle 100 0\nneedle 200 0"))
+    same("neither", raised(stitch.convert, LONG, "lst", "dst"), ("Refused", "out.dst: command 2: stitch longer than 121"))
     same("sample", raised(stitch.route, stitch.sample(3), "dst"), None)
     same("migrate", stitch.migrate(DRAWING.replace(b"redwork 3", b"redwork 1")), DRAWING.replace(b"redwork 3", b"redwork 2"))
     same("trace", stitch.trace(routed.design, "pes").splitlines()[-1], b"line 0 0 10 0 20 0")
@@ -69,17 +80,24 @@ def test_functions():
     same("drawing", stitch.picture(DRAWING, "rw")[:5], "<svg ")
     same("proof", stitch.proof_picture(DRAWING, routed.certificate)[:5], "<svg ")
     same("look", stitch.look(DRAWING, 3).splitlines()[-1], "pieces 1 places 0 thread 20 travel 0")
-    same("snap", stitch.snap(2, DRAWING), DRAWING.replace(b"redwork 3", b"redwork 2"))
-    same("cross", stitch.cross(DRAWING), DRAWING.replace(b"redwork 3", b"redwork 2"))
-    same("crossed", stitch.cross(DRAWING, keep=True), DRAWING.replace(b"redwork 3", b"redwork 2"))
-    same("space", stitch.space(DRAWING), DRAWING.replace(b"redwork 3", b"redwork 2"))
-    same("spaced", stitch.space(DRAWING, length=10, leeway=1), DRAWING.replace(b"redwork 3", b"redwork 2"))
+    same("gap", [stitch.look(APART, gap).splitlines()[-1] for gap in (2, 3)],
+         ["pieces 2 places 0 thread 60 travel 30", "pieces 2 places 1 thread 60 travel 30"])
+    same("snap", [stitch.snap(gap, APART).splitlines()[-2:] for gap in (2, 3)],
+         [[b"line 0 0 30 0", b"line 30 3 60 3"], [b"line 0 0 30 3", b"line 30 3 60 3"]])
+    same("snapped", [stitch.snap(2, TWICE, keep=keep).count(b"line") for keep in (False, True)], [2, 3])
+    same("cross", [stitch.cross(TWICE, keep=keep).count(b"line") for keep in (False, True)], [2, 3])
+    same("space", stitch.space(WAVE).splitlines()[-1], b"line 0 0 24 1 48 0 64 0")
+    same("spaced", stitch.space(WAVE, length=20, leeway=2).splitlines()[-1], b"line 0 0 16 0 32 0 48 0 64 0")
     same("free", sorted(line.split(b" ", 1)[1] for line in stitch.free(DRAWING).splitlines()[-2:]), [b"0 0", b"20 0"])
     same("near", stitch.near(DRAWING), DRAWING.replace(b"redwork 3", b"redwork 2"))
     tied = stitch.edit_design(LIST, "lst", "dst", "tie")
     same("bare", stitch.edit_design(tied, "dst", "lst", "bare"), LIST.replace(b"block 5", b"block 1"))
     same("edit_drawing", stitch.edit_drawing(DRAWING, "shift=0,5").splitlines()[-1], b"line 0 5 20 5")
     same("review", stitch.review(LIST, "lst", tie=0).splitlines()[-1], "places 0")
+    same("reviewed", stitch.review(LONG, "lst", long=199, tie=0, float=0, short=0).splitlines()[-2], "command 2: stitch of 200")
+    other = LIST.replace(b"block 5", b"block 7")
+    same("threads of two", [raised(stitch.compare, LIST, "lst", other, "lst", threads=threads) for threads in (False, True)],
+         [None, ("Refused", "block 1: thread 5, 7")])
     same("threads", len(stitch.threads().splitlines()), 64)
     same("thread", stitch.threads(LIST, "lst"), "block 1 thread 5 Red #ed171f needles 5 length 120\n")
 
