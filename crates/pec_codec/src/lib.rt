@@ -25,8 +25,7 @@ mod theorems;
 mod writing;
 
 pub use block::{HEADER_LENGTH, LABELS_LENGTH, LIMIT, MAX_STOPS, THUMBNAIL_LENGTH};
-pub use block_reader::{BlockReader, block_decoder};
-pub use pec_records::PecRecords;
+pub use block_reader::BlockReader;
 pub use reading::read_block;
 pub use theorems::blocks_read_back;
 pub use writing::write_block;

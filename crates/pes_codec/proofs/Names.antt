@@ -6,11 +6,9 @@ pub use Rattle.format_traits.specs.declared.fault.ReadFault.{ReadFault}
 pub use Rattle.format_traits.specs.declared.fault.WriteFault.{WriteFault}
 pub use Rattle.pec_codec.specs.Laws.{BlockRoundTrips, KeepsBlockLaws, RestoresDesign}
 pub use Rattle.pec_codec.specs.Reading.{pec_block_layout, pec_block_moves, pec_block_reads}
-pub use Rattle.pec_codec.specs.Records.{pec_records}
 pub use Rattle.pes_codec.specs.Formats.{file_meaning, pec_meaning, pes_meaning}
-pub use Rattle.pes_codec.specs.Fronts.{FrontLayout, after_skip, from_front, front_fault, front_layout_of, front_of}
+pub use Rattle.pes_codec.specs.Fronts.{FrontLayout, after_skip, from_front, front_layout_of, front_of}
 pub use Rattle.pes_codec.specs.Laws.{KeepsLabelsAndThreads, RoundTripsWithThreads}
 pub use Rattle.pes_codec.specs.Writing.{after_front, file_writes}
 pub use Rattle.pes_codec.specs.declared.file_kind.FileKind.TheVariants.{Pec, Pes}
-pub use Rattle.record_formats.specs.Layouts.{layout_decoded, layout_reads, layout_state}
-pub use Rattle.record_formats.specs.RecordStates.{record_so_far_at, record_state_at}
+pub use Rattle.record_formats.specs.Layouts.{layout_decoded, layout_reads}

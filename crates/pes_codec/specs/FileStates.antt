@@ -1,70 +1,65 @@
--- The state of a decoder of PEC and PES files at each stage, as functions of the remaining bytes.
-use Rattle.std.specs.Prelude.{ℕ, List, [], Result, Err}
-use Rattle.design_model.specs.declared.command.Command.{Command}
+-- The state of a PEC or PES file that is fed in chunks, at each stage.
+use Rattle.std.specs.Prelude.{◌≡◌, ℕ, ◌<◌, ◌≤◌, false, List, [], ◌++◌, length, Result, Err}
 use Rattle.format_traits.specs.declared.fault.ReadFault.{ReadFault}
 use Rattle.format_traits.specs.declared.fault.ReadFault.TheVariants as fault
 use Rattle.format_traits.specs.declared.loaded.Loaded.{Loaded}
-use Rattle.format_traits.specs.DecoderStates.{DecodedSoFar, DecoderState}
+use Rattle.format_traits.specs.Feeding.{FeedState, IsSpoiled}
+use Rattle.format_traits.specs.Laws.{DecodesTo}
+use Rattle.record_formats.specs.Layouts.{layout_decoded, layout_reads}
+use Rattle.pec_codec.specs.Reading.{pec_block_layout}
 use Rattle.pes_codec.specs.declared.file_stage.FileStage.{FileStage}
 use Rattle.pes_codec.specs.declared.file_stage.FileStage.TheVariants as stage
-use Rattle.pes_codec.specs.Fronts.{FrontLayout, decoded_after_skip, file_decoded_from, reads_after_skip, file_reads_from}
+use Rattle.pes_codec.specs.Fronts.{FrontLayout, after_skip, from_front}
 
--- The result of the file at a stage, as a function of the remaining bytes.
-abbrev pub file_rest_at : FrontLayout → DecoderState → FileStage → ℕ → List ℕ
-    → Result Loaded ReadFault
-file_rest_at front_layout block (stage.Front f) at bytes = file_reads_from front_layout at bytes
-file_rest_at front_layout block (stage.Before skip end) at bytes = reads_after_skip skip at bytes
-file_rest_at front_layout block stage.Block at bytes = block.rest at bytes
-file_rest_at front_layout block (stage.Refused f) at bytes = Err f
-
--- The commands of the file at a stage, as a function of the remaining bytes.
-abbrev pub file_decoded_at : FrontLayout → DecoderState → FileStage → ℕ → List ℕ → List Command
-file_decoded_at front_layout block (stage.Front f) at bytes = file_decoded_from front_layout at
-    bytes
-file_decoded_at front_layout block (stage.Before skip end) at bytes = decoded_after_skip skip at
-    bytes
-file_decoded_at front_layout block stage.Block at bytes = block.decoded at bytes
-file_decoded_at front_layout block (stage.Refused f) at bytes = []
-
--- The decoder state at a stage: the result and the commands as functions of the remaining bytes.
-abbrev pub file_state_at : FrontLayout → DecoderState → FileStage → DecoderState
-file_state_at front_layout block stage = record {
-  rest = file_rest_at front_layout block stage;
-  decoded = file_decoded_at front_layout block stage;
+-- The state of a file after its front: `skip` bytes come before the block.
+abbrev pub block_feed_state : (skip taken : ℕ) → FeedState → FeedState
+block_feed_state skip taken block = record {
+  spoiled = block.spoiled;
+  taken = taken;
+  rest = after_skip Err (λ _. block.rest) skip taken;
+  decoded = after_skip (λ _. []) (λ _. block.decoded) skip taken;
 }
 
--- The decoder state at the start of a file.
-abbrev pub file_start_state : FrontLayout → DecoderState
-file_start_state front_layout = record {
-  rest = file_reads_from front_layout;
-  decoded = file_decoded_from front_layout;
+-- What a file gives at a stage, as a function of the remaining bytes. `front` are its first bytes.
+abbrev pub file_gives_at : {A : Type 0} → (ReadFault → A) → (ℕ → List ℕ → A) → (List ℕ → A)
+    → FrontLayout → List ℕ → FileStage → List ℕ → A
+file_gives_at none block behind front_layout front stage.Front more =
+    from_front none block front_layout (front ++ more)
+file_gives_at none block behind front_layout front stage.Refused more = none (fault.Signature 0)
+file_gives_at none block behind front_layout front stage.Behind more = behind more
+
+-- The state of a file at a stage.
+abbrev pub file_feed_state : FrontLayout → List ℕ → (taken skip : ℕ) → FeedState → FileStage
+    → FeedState
+file_feed_state front_layout front taken skip block stage = record {
+  spoiled = block.spoiled;
+  taken = taken;
+  rest = file_gives_at Err (layout_reads pec_block_layout) (block_feed_state skip taken block).rest
+      front_layout front stage;
+  decoded = file_gives_at (λ _. []) (layout_decoded pec_block_layout)
+      (block_feed_state skip taken block).decoded front_layout front stage;
 }
 
--- The decoder state before a block that begins after `skip` more bytes.
-abbrev pub file_state_before_block : ℕ → DecoderState
-file_state_before_block skip = record {
-  rest = reads_after_skip skip;
-  decoded = decoded_after_skip
-      skip;
-}
+-- The state of a file in its front: all bytes fed are in the front, which isn't complete.
+pub record IsInFront (front_layout : FrontLayout) (front : List ℕ) (taken : ℕ) (block : FeedState)
+    : Type 0 where
+  pub few : length front < front_layout.length
+  pub all : taken ≡ length front
+  pub sound : block.spoiled ≡ false
 
--- The result of the file if it ends at this stage.
-abbrev pub file_answer_at : DecodedSoFar → FileStage → Result Loaded ReadFault
-file_answer_at block (stage.Front f) = Err f
-file_answer_at block (stage.Before skip end) = Err (fault.Short end)
-file_answer_at block stage.Block = block.answer
-file_answer_at block (stage.Refused f) = Err f
+-- The state of a file after its front: memory runs out in the block alone.
+pub record IsBehindFront (taken skip : ℕ) (block : FeedState) : Type 0 where
+  pub sound : 0 < skip → block.spoiled ≡ false
+  pub most : block.taken ≤ taken
 
--- The commands that were decoded up to this stage.
-abbrev pub file_commands_so_far : DecodedSoFar → FileStage → List Command
-file_commands_so_far block (stage.Front f) = []
-file_commands_so_far block (stage.Before skip end) = []
-file_commands_so_far block stage.Block = block.commands
-file_commands_so_far block (stage.Refused f) = []
+-- What a reader keeps at each stage.
+abbrev pub KeepsStage : FrontLayout → List ℕ → (taken skip : ℕ) → FeedState → FileStage → Type 0
+KeepsStage front_layout front taken skip block stage.Front = IsInFront front_layout front taken
+    block
+KeepsStage front_layout front taken skip block stage.Refused = block.spoiled ≡ false
+KeepsStage front_layout front taken skip block stage.Behind = IsBehindFront taken skip block
 
--- The result and the commands if the file ends at this stage.
-abbrev pub file_so_far_at : DecodedSoFar → FileStage → DecodedSoFar
-file_so_far_at block stage = record {
-  answer = file_answer_at block stage;
-  commands = file_commands_so_far block stage;
-}
+-- Meaning of each answer at the end of a file: the result of what was fed, or out of memory.
+abbrev pub AnswersFile : FeedState → Result Loaded ReadFault → FeedState → Type 0
+AnswersFile old (Err fault.Memory) new = IsSpoiled old 0 new
+AnswersFile old result new = (old.spoiled ≡ false) × DecodesTo (old.rest []) result

@@ -1,12 +1,8 @@
 -- The front of a file: the bytes by which its format is recognised, and which contain the offset of
 -- its block.
-use Rattle.std.specs.Prelude.{ℕ, ◌+◌, List, [], Bool, length, drop, nat_lt, Result, Err, codes, if◌then◌else◌}
-use Rattle.design_model.specs.declared.command.Command.{Command}
+use Rattle.std.specs.Prelude.{ℕ, ◌+◌, List, Bool, length, drop, nat_lt, codes, if◌then◌else◌}
 use Rattle.format_traits.specs.declared.fault.ReadFault.{ReadFault}
 use Rattle.format_traits.specs.declared.fault.ReadFault.TheVariants as fault
-use Rattle.format_traits.specs.declared.loaded.Loaded.{Loaded}
-use Rattle.record_formats.specs.Layouts.{layout_decoded, layout_reads}
-use Rattle.pec_codec.specs.Reading.{pec_block_layout}
 use Rattle.pes_codec.specs.declared.file_kind.FileKind.{FileKind}
 use Rattle.pes_codec.specs.declared.file_kind.FileKind.TheVariants.{Pec, Pes}
 use Rattle.pes_codec.specs.declared.front.TheConstants.{OFFSET_END, PEC_BLOCK_OFFSET}
@@ -46,33 +42,10 @@ after_skip none block skip at bytes =
     if nat_lt (length bytes) skip then none (fault.Short (at + length bytes))
     else block (at + skip) (drop skip bytes)
 
--- What a file gives whose first byte has the offset `at`.
-abbrev pub from_front : {A : Type 0} → (ReadFault → A) → (ℕ → List ℕ → A) → FrontLayout → ℕ
-    → List ℕ → A
-from_front none block front_layout at bytes =
+-- What a file gives.
+abbrev pub from_front : {A : Type 0} → (ReadFault → A) → (ℕ → List ℕ → A) → FrontLayout → List ℕ → A
+from_front none block front_layout bytes =
     if front_layout.known bytes
-    then (if nat_lt (length bytes) front_layout.length then none (fault.Short (at + length bytes))
-    else after_skip none block (front_layout.block bytes) at bytes)
-    else none (fault.Signature at)
-
--- The result of the bytes after `skip` others, and of a file.
-abbrev pub reads_after_skip : ℕ → ℕ → List ℕ → Result Loaded ReadFault
-reads_after_skip skip at bytes = after_skip Err (layout_reads pec_block_layout) skip at bytes
-
-abbrev pub file_reads_from : FrontLayout → ℕ → List ℕ → Result Loaded ReadFault
-file_reads_from front_layout at bytes = from_front Err (layout_reads pec_block_layout) front_layout
-    at bytes
-
--- The commands of the bytes after `skip` others, and of a file.
-abbrev pub decoded_after_skip : ℕ → ℕ → List ℕ → List Command
-decoded_after_skip skip at bytes = after_skip (λ _. []) (layout_decoded pec_block_layout) skip at
-    bytes
-
-abbrev pub file_decoded_from : FrontLayout → ℕ → List ℕ → List Command
-file_decoded_from front_layout at bytes = from_front (λ _. []) (layout_decoded pec_block_layout)
-    front_layout at bytes
-
--- The refusal of a file that ends in its front.
-abbrev pub front_fault : FrontLayout → ℕ → List ℕ → ReadFault
-front_fault front_layout at bytes =
-    if front_layout.known bytes then fault.Short (at + length bytes) else fault.Signature at
+    then (if nat_lt (length bytes) front_layout.length then none (fault.Short (length bytes))
+    else after_skip none block (front_layout.block bytes) 0 bytes)
+    else none (fault.Signature 0)

@@ -1,6 +1,7 @@
 pub mod Files
 pub mod Fronts
 pub mod FileStates
+pub mod StageProps
 pub mod Reading
 pub mod Writing
 -- read this one first: what the two formats mean

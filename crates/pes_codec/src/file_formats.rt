@@ -2,9 +2,8 @@ ghost use Rattle.pes_codec.specs.declared.file_kind.FileKind.TheVariants as kind
 ghost use Rattle.pes_codec.specs.declared.file_kind.FileKind.{FileKind as Kind};
 ghost use Rattle.std.specs.Prelude.{◌≡◌};
 
-use crate::file_decoder::FileDecoder;
+use crate::block_format::BlockFormat;
 use crate::file_kind::FileKind;
-use format_traits::FedFormat;
 
 /// A format whose files are of one kind.
 pub trait FileFormat {
@@ -39,7 +38,7 @@ impl FileFormat for PesFiles {
 }
 
 /// The PEC format.
-pub type Pec = FedFormat<FileDecoder<PecFiles>>;
+pub type Pec = BlockFormat<PecFiles>;
 
 /// The PES format: any version is read, and version 1 without sewing segments is written.
-pub type Pes = FedFormat<FileDecoder<PesFiles>>;
+pub type Pes = BlockFormat<PesFiles>;

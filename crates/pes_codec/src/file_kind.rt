@@ -1,6 +1,6 @@
 ghost use Rattle.format_traits.specs.Laws.{IsFileEnding};
-ghost use Rattle.format_traits.specs.declared.decoder.TheConstants.{MAX_PENDING};
 ghost use Rattle.pes_codec.specs.Fronts.{ending_of, front_layout_of, front_of};
+ghost use Rattle.pes_codec.specs.declared.front.TheConstants.{OFFSET_END};
 ghost use Rattle.std.specs.Prelude.{◌≡◌, ◌<◌, ◌≤◌, ◌++◌, ℕ, List, length};
 
 use crate::front::{OFFSET_END, PEC_BLOCK_OFFSET};
@@ -31,7 +31,7 @@ impl FileKind {
     pub(crate) fn length(self) -> usize
         ensures value { result ≡ (front_layout_of self).length }
         ensures some { 0 < result }
-        ensures few { result < MAX_PENDING }
+        ensures fits { result ≤ OFFSET_END }
     {
         match self {
             FileKind::Pec => PEC_BLOCK_OFFSET,

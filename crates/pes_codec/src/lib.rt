@@ -12,15 +12,17 @@
 //! ```
 #![tactic(auto)]
 
-mod file_codec;
-mod file_decoder;
+mod block_format;
+mod block_passing;
 mod file_formats;
 mod file_kind;
+mod file_reading;
 mod file_stage;
+mod file_writing;
 mod front;
 mod theorems;
 
-pub use file_decoder::FileDecoder;
+pub use block_format::BlockFormat;
 pub use file_formats::{FileFormat, Pec, PecFiles, Pes, PesFiles};
 pub use file_kind::FileKind;
 pub use front::{OFFSET_END, PEC_BLOCK_OFFSET};

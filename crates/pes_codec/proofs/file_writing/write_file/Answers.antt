@@ -1,6 +1,6 @@
 use Rattle.pes_codec.proofs.Names.{file_meaning, front_of}
 use Rattle.pes_codec.proofs.FrontLemmas.{is_behind, keeps_laws, reads_whole}
-use Rattle.pes_codec.proofs.file_codec.write_file.Goals as goal
+use Rattle.pes_codec.proofs.file_writing.write_file.Goals as goal
 
 pub returns : goal.returns
 returns c =
