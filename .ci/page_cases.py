@@ -1,34 +1,18 @@
-"""Tests the page in Chromium, and its runs in Firefox where it is there: page_cases.py FOLDER PICTURES [WORD..], FOLDER having stitch.html. Runs the tests whose names have
-one of the words, or all."""
-import io
+"""Tests the page in Chromium, and its runs in Firefox where it is there: page_cases.py FOLDER PICTURES [WORD..], FOLDER having
+stitch.html. Runs the tests here and in page_ways.py whose names have one of the words, or all."""
 import os
 import random
 import struct
 import sys
 import types
-import zipfile
 
 sys.dont_write_bytecode = True
-from page_browser import By, Page, WebDriverException, native  # noqa: E402
+import page_ways  # noqa: E402
+from page_browser import FAULTS, TOP, VIEWS, Page, WebDriverException, equal, examples, native, wrong  # noqa: E402
 from page_firefox import FirefoxPage, firefox  # noqa: E402
 
-TOP = os.path.dirname(os.path.dirname(os.path.abspath(__file__)))
 FOLDER, PICTURES, WORDS = sys.argv[1], sys.argv[2], sys.argv[3:]
 FORMATS = ["dst", "exp", "pec", "pes", "lst"]
-VIEWS = ["Open", "Drawing", "Route", "Play", "Keep", "Check", "Convert", "What is proved"]
-failed = 0
-
-
-def wrong(title, wanted, found):
-    global failed
-    failed += 1
-    print(f"page: {title}\n  wanted {str(wanted)[:600]}\n  found  {str(found)[:600]}", file=sys.stderr)
-
-
-def examples(ending):
-    """The contents of the examples with this ending, by name."""
-    names = sorted(name for name in os.listdir(os.path.join(TOP, "examples")) if name.endswith(ending))
-    return {name: open(os.path.join(TOP, "examples", name), "rb").read() for name in names}
 
 
 def same(page, program, words, files):
@@ -140,7 +124,8 @@ def test_svg(page):
         words = [f"--{name}" if value is True else f"--{name}={value}" for name, value in options.items()]
         status, report = ours.run([source, target, *words])
         given = {{"centre": "isCentred"}.get(name, name): value for name, value in options.items()}
-        found = page.driver.execute_script("return window.stitch.svg(...arguments)", document, given)
+        found = page.driver.execute_async_script("""const [document, options, done] = arguments;
+            window.stitch.svg(document, options).then(done, why => done({ failed: String(why) }));""", document, given)
         if (status == 0) != ("text" in found) or status == 0 and open(target).read() != found["text"]:
             wrong(document[:300], (status, report), found)
         drawn += status == 0
@@ -175,54 +160,6 @@ def svg_rows(ours):
     return rows
 
 
-def test_way(page):
-    """By the hand's way from an SVG file to saved files: each is what the built programs write."""
-    svg = examples("bird.svg")
-    page.drop(svg)
-    page.click("To the drawing")
-    page.settle()
-    page.click("Snap")
-    page.settle()
-    page.click("Even stitches")
-    page.settle()
-    words = page.driver.find_element(By.TAG_NAME, "textarea").get_property("value").encode()
-    page.click("Route it")
-    page.settle()
-    page.click("Keep the files")
-    page.settle()
-    wanted = {"bird.rw": words, **native("stitch", ["route", "bird.rw", "bird.pes", "bird.cert"], {"bird.rw": words})[3]}
-    for name, content in wanted.items():
-        page.click(f"Save {name}")
-        if page.saved_file(name) != content:
-            wrong(f"saved {name}", len(content), "another content")
-    machine = [one.get_attribute("aria-label") for one in page.shown("button") if "machine" in (one.get_attribute("aria-label") or "")]
-    if "stitch_design" in page.driver.execute_script("return window.stitch.programs") and machine != ["Save bird-machine.pes"]:
-        wrong("the tied design", "Save bird-machine.pes", machine)
-    page.click("All of them as one zip")
-    kept = zipfile.ZipFile(io.BytesIO(page.saved_file("bird.zip")))
-    if kept.testzip() or any(kept.read(name) != content for name, content in wanted.items()):
-        wrong("the zip", sorted(wanted), kept.namelist())
-    made = native("stitch_picture", ["bird.rw", "bird.cert", "bird-proof.svg"], wanted)[3]
-    if kept.read("bird-proof.svg") != made["bird-proof.svg"]:
-        wrong("the proof's picture", "that of the program", "another")
-    yes = [one.text for one in page.shown(".verdict")]
-    if not yes or not yes[-1].startswith("Checked: yes"):
-        wrong("the verdict", "yes", yes)
-
-
-def test_check(page):
-    """Three files that are dropped are checked: yes, and the reason of a no."""
-    rose = examples("rose.rw")
-    made = native("stitch", ["route", "rose.rw", "rose.pes", "rose.cert"], rose)[3]
-    for files, wanted in (({**rose, **made}, "yes"), ({**made, "rose.rw": examples("square.rw")["square.rw"]}, "no")):
-        page.click("Open", "[role=tab]")
-        page.drop(files)
-        page.settle()
-        found = page.shown(".answer .yes, .answer .no")[0].text
-        if found != wanted:
-            wrong("check of dropped files", wanted, found)
-
-
 def test_stop(page):
     """A run that is stopped ends, and the next one goes on."""
     page.driver.execute_script("""const turns = [1, 0, 0, 1, -1, 0, 0, -1], bytes = new Uint8Array(2000000).map((_, k) => turns[k % 8]);
@@ -236,14 +173,9 @@ def test_stop(page):
 def test_faults_in_text(page):
     """A line of the text that is refused is marked, and undone it is right again."""
     page.drop(examples("rose.rw"))
-    page.settle()
-    area = page.driver.find_element(By.TAG_NAME, "textarea")
-    page.driver.execute_script("arguments[0].value = arguments[0].value.replace('color 5', 'colour 5');"
-                               "arguments[0].dispatchEvent(new Event('input', { bubbles: true }));", area)
+    page.type(page.typed().replace("color 5", "colour 5"))
     page.until(lambda: page.shown(".gutter .wrong"))
-    found = page.shown(".gutter .wrong")[0].text, page.shown(".refused")[0].text
-    if found != ("12", "stitch_drawing: rose.rw: line 12: word not understood"):
-        wrong("the marked line", "line 12", found)
+    equal("the marked line", ("12", "Line 12 of the text: word not understood."), (page.says(".gutter .wrong")[0], page.says(".refused")[0]))
     page.click("Undo")
     page.until(lambda: not page.shown(".gutter .wrong"))
 
@@ -251,57 +183,50 @@ def test_faults_in_text(page):
 def test_names(page):
     """Every control has a name for a screen reader, and the tabs go by arrow keys."""
     page.drop(examples("rose.rw"))
-    page.settle()
     for view in VIEWS:
-        page.click(view, "[role=tab]")
-        page.settle()
-        page.driver.execute_script("for (const one of document.querySelectorAll('details')) one.open = true;")
-        for control in page.shown("button, input, select, textarea, canvas, [role=group], [role=region], img, svg[role=img]"):
+        page.view(view)
+        page.js("for (const one of document.querySelectorAll('details')) one.open = true;")
+        for control in page.shown("button, input, select, textarea, canvas[role=img], [role=group], [role=region], img, svg[role=img]"):
             if not control.accessible_name:
                 wrong(f"{view}: a control without a name", "a name", control.get_attribute("outerHTML")[:200])
     tab = page.shown("[role=tab][aria-selected=true]")[0]
     tab.send_keys("\ue012")
-    if page.shown("[role=tab][aria-selected=true]")[0].text != VIEWS[-2]:
-        wrong("an arrow key", VIEWS[-2], page.shown("[role=tab][aria-selected=true]")[0].text)
+    equal("an arrow key", VIEWS[-2], page.says("[role=tab][aria-selected=true]")[0])
 
 
 def test_pictures(page):
-    """Screenshots of each view, wide and narrow. Nothing is wider than the page."""
+    """Screenshots of each view, wide, narrow and with large letters, light and dark. Nothing is wider than the page."""
     made = native("stitch", ["route", "rose.rw", "rose.pes", "rose.cert"], examples("rose.rw"))[3]
-    for width, height in ((1280, 1000), (400, 900)):
-        page.resize(width, height)
+    for width, scale, scheme in ((1280, 1, "light"), (400, 1, "light"), (640, 2, "light"), (1280, 1, "dark")):
+        page.driver.execute_cdp_cmd("Emulation.setEmulatedMedia", {"features": [{"name": "prefers-color-scheme", "value": scheme}]})
+        page.resize(width, 1000, scale)
+        page.fresh()
+        shoot(page, f"first-{scheme}", width, scale)
+        page.drop({**examples("rose.rw"), **made})
+        page.drop({"rose.pes": made["rose.pes"], "long.exp": examples("long.exp")["long.exp"]})
         page.drop(examples("snail.svg"))
+        shoot(page, f"svg-{scheme}", width, scale)
+        page.click("Make it ready")
         page.settle()
-        shoot(page, "svg", width)
-        page.drop(examples("motif.rw"))
         for view in VIEWS:
-            if view == "Check":
-                page.drop({**examples("rose.rw"), **made})
-            if view == "Convert":
-                page.click("Open", "[role=tab]")
-                page.drop({"rose.pes": made["rose.pes"]})
-            page.click(view, "[role=tab]")
-            page.settle()
-            shoot(page, view.lower().replace(" ", "-"), width)
-            if view == "Route":
-                page.click("Proof")
-                page.settle()
-                shoot(page, "proof", width)
+            page.view(view)
+            shoot(page, f"{view.lower().replace(' ', '-')}-{scheme}", width, scale)
+    page.driver.execute_cdp_cmd("Emulation.setEmulatedMedia", {"features": []})
     page.resize(1280, 900)
 
 
-def shoot(page, name, width):
+def shoot(page, name, width, scale):
     """A screenshot of the entire page."""
-    size = page.driver.execute_script("return [document.documentElement.scrollWidth, document.documentElement.scrollHeight]")
+    size = page.js("return [document.documentElement.scrollWidth, document.documentElement.scrollHeight]")
     if size[0] > width:
         wrong(f"{name}: the width", width, size[0])
-    page.resize(width, min(max(size[1], 700), 3000))
-    page.picture(os.path.join(PICTURES, f"{name}-{width}.png"))
-    page.resize(width, 1000)
+    page.resize(width, min(max(size[1], 700), 3000), scale)
+    page.picture(os.path.join(PICTURES, f"{name}-{width * scale}-{scale}.png"))
+    page.resize(width, 1000, scale)
 
 
 def test_in_firefox(_):
-    """The examples, the samples, the refusals and the limits once more, in Firefox."""
+    """The examples, the samples, the refusals and the limits once more, in Firefox, and that the work is kept there."""
     if firefox() is None:
         print("page: there is no firefox-esr: not tested in Firefox")
         return
@@ -310,6 +235,14 @@ def test_in_firefox(_):
         print(f"page: in Firefox {page.version}")
         for test in (test_examples, test_samples, test_refusals, test_limits):
             test(page)
+        page.script("[...document.querySelectorAll('.chips button')].find(one => one.textContent === 'heart.rw').click();")
+        page.until("document.querySelector('textarea').value && !window.stitch.runs()")
+        page.script("document.querySelector('textarea').value += '# mine\\n';"
+                    "document.querySelector('textarea').dispatchEvent(new Event('input', { bubbles: true }));")
+        page.until("document.querySelectorAll('.steps li').length > 1 && !window.stitch.runs()")
+        page.wait(1)
+        page.open()
+        equal("Firefox keeps the work", True, page.until("document.querySelector('textarea').value.endsWith('# mine\\n')"))
     finally:
         page.close()
 
@@ -318,19 +251,21 @@ def main():
     saved = os.path.join(FOLDER, "saved")
     os.mkdir(saved)
     page = Page(os.path.join(FOLDER, "stitch.html"), saved, (1280, 900))
+    tests = {name: test for module in (globals(), vars(page_ways)) for name, test in module.items() if name.startswith("test_")}
     try:
-        for name, test in list(globals().items()):
-            if name.startswith("test_") and (not WORDS or any(word in name for word in WORDS)):
+        for name, test in tests.items():
+            if not WORDS or any(word in name for word in WORDS):
                 try:
+                    page.fresh()
                     test(page)
-                except (AssertionError, WebDriverException) as why:
+                except (AssertionError, IndexError, WebDriverException) as why:
                     wrong(name, "no failure", f"{type(why).__name__}: {why}")
                 for fault in page.faults():
                     wrong(name, "no fault", fault)
     finally:
         page.driver.quit()
-    print(f"page: {failed} failed")
-    return failed > 0
+    print(f"page: {len(FAULTS)} failed")
+    return len(FAULTS) > 0
 
 
 if __name__ == "__main__":

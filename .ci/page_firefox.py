@@ -34,8 +34,28 @@ class FirefoxPage:
         self.number = 0
         self.version = self.call("WebDriver:NewSession", {})["capabilities"]["browserVersion"]
         self.call("WebDriver:SetTimeouts", {"script": SECONDS * 1000})
-        self.call("WebDriver:Navigate", {"url": f"file://{path}"})
+        self.address = f"file://{path}"
+        self.open()
+
+    def open(self):
+        """Opens the page, as if it had been closed before."""
+        self.call("WebDriver:Navigate", {"url": self.address})
         self.call("WebDriver:ExecuteAsyncScript", {"script": READY, "args": [], "sandbox": None})
+
+    def script(self, script):
+        return self.call("WebDriver:ExecuteScript", {"script": script, "args": [], "sandbox": None})["value"]
+
+    def until(self, condition):
+        """Waits until a condition holds in the page."""
+        end = time.time() + SECONDS
+        while not self.script(f"return Boolean({condition});"):
+            if time.time() > end:
+                raise AssertionError(f"not within the time: {condition}")
+            time.sleep(0.05)
+        return True
+
+    def wait(self, seconds):
+        time.sleep(seconds)
 
     def port(self):
         """The port on which Firefox listens, once it does."""

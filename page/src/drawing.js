@@ -1,4 +1,4 @@
-// The text of a drawing as blocks of lines, for the page to show. What is right of a drawing the programs say.
+// The text of a drawing as blocks of lines, for the page to show. What is wrong with a drawing the programs say.
 
 // The blocks of a text: of each its thread, its lines as lists of points, its starts and its ends.
 export function blocksOf(words) {
@@ -33,6 +33,12 @@ export function junctionsOf({ lines }) {
         }
     }
     return [...degrees.values()];
+}
+
+// Whether a junction is odd. A closing line from a given end back to a given start counts too.
+export function isOdd(block, { point, degree }) {
+    const key = point.join(), [starts, ends] = [block.starts, block.ends].map(list => list.some(one => one.join() === key));
+    return (degree + (starts !== ends && block.starts.length && block.ends.length ? 1 : 0)) % 2 === 1;
 }
 
 // The pieces of all blocks whose lines are cut: of each the point where it begins.
@@ -71,4 +77,16 @@ export function extentOf(blocks) {
         }
     }
     return extent;
+}
+
+// The text of a drawing with all lengths and points multiplied, rounded to tenths of a millimetre. Points that become the same as
+// the one before are left out, and so are lines of a single point. The longest step and all comments stay.
+export function scaledText(words, by) {
+    return words.split("\n").map(line => {
+        const found = /^([ \t]*(line|start|end)[ \t]+)(.*)$/.exec(line);
+        if (!found) return line;
+        const points = pairs(found[3].trim().split(/[ \t]+/).map(part => Math.round(Number(part) * by)));
+        const left = points.filter((point, k) => k === 0 || point[0] !== points[k - 1][0] || point[1] !== points[k - 1][1]);
+        return found[2] === "line" && left.length < 2 ? null : found[1] + left.map(point => point.join(" ")).join(" ");
+    }).filter(line => line !== null).join("\n");
 }

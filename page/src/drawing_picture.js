@@ -1,16 +1,8 @@
-// The picture of a drawing in which points and places can be chosen.
-import { extentOf, junctionsOf, piecesOf } from "./drawing.js";
+// The picture of a drawing in which points can be chosen, with its hoop.
 import { drawn } from "./elements.js";
+import { fitOf } from "./hoop.js";
 import { text } from "./texts.js";
 import { threadOf } from "./threads.js";
-
-// The parity of junctions counts a closing line from a given end back to a given start.
-function isOdd(block, { point, degree }) {
-    const key = point.join(), [starts, ends] = [block.starts, block.ends].map(list => list.some(one => one.join() === key));
-    return (degree + (starts !== ends && block.starts.length && block.ends.length ? 1 : 0)) % 2 === 1;
-}
-
-const pathOf = line => `M${line.map(point => point.join(" ")).join("L")}`;
 
 // A mark at a point, whose parts count units from it. It grows less than the picture does.
 function mark([x, y], unit, ...parts) {
@@ -27,32 +19,43 @@ function number(count) {
 function blockParts(block, unit) {
     const { colour } = threadOf(block.thread);
     return [
-        drawn("path", { class: "line", d: block.lines.map(pathOf).join(""), stroke: colour }),
-        junctionsOf(block).map(junction => mark(junction.point, unit,
-            drawn("circle", isOdd(block, junction) ? { class: "odd", r: 4 } : { class: "even", r: 2.5 }))),
+        drawn("path", { class: "line", d: block.path, stroke: colour }),
+        block.junctions.map(([x, y, isOdd]) => mark([x, y], unit, drawn("circle", isOdd ? { class: "odd", r: 4 } : { class: "even", r: 2.5 }))),
         block.starts.map(point => mark(point, unit, drawn("path", { class: "start", d: "M0 0L-11 -7V7Z" }))),
         block.ends.map(point => mark(point, unit, drawn("path", { class: "end", d: "M0 -5h10v10h-10Z" }))),
     ];
 }
 
-// The picture of blocks whose lines are cut where they meet, with places; `choose` is told of a place by its index.
-export function drawingPicture(blocks, places, choose) {
-    const [left, top, right, low] = extentOf(blocks), size = Math.max(right - left, low - top, 10), unit = size / 480;
-    const edge = 26 * unit, width = right - left + 2 * edge, height = low - top + 2 * edge;
-    const marks = places.map((place, k) => drawn("g", { class: "place", "data-place": k, click: () => choose(k) },
-        mark(place.point, unit, drawn("circle", { class: "ring", r: 8 })), drawn("title", {}, `${k + 1}: ${place.what}`)));
-    return drawn("svg", { class: "drawn", viewBox: `${left - edge} ${top - edge} ${width} ${height}`, role: "img",
-        "aria-label": text("drawing.picture", { pieces: piecesOf(blocks).length, places: places.length }) },
-    blocks.map(block => blockParts(block, unit)), piecesOf(blocks).map((point, k) => mark(point, unit, number(k + 1))), marks);
+// The sides of the hoop about the middle of an extent, as it fits, or null where there is none.
+function hoopAround([left, top, right, low], hoop) {
+    if (!hoop) return null;
+    const { fits, isTurned } = fitOf([right - left, low - top], hoop), [width, height] = isTurned ? hoop.toReversed() : hoop;
+    return { x: (left + right - width) / 2, y: (top + low - height) / 2, width, height, class: fits ? "hoop" : "hoop over" };
 }
 
-// The listed point of blocks that is nearest to a place of the picture, in its own units.
-export function nearestPoint(blocks, svg, clientX, clientY) {
+// The picture of a drawing as the worker read it. `marks` is the group for what is chosen, and `unit` the size of its units.
+export function drawingPicture({ blocks, begins, extent }, hoop) {
+    const frame = hoopAround(extent, hoop), outer = frame ? [Math.min(extent[0], frame.x), Math.min(extent[1], frame.y),
+        Math.max(extent[2], frame.x + frame.width), Math.max(extent[3], frame.y + frame.height)] : extent;
+    const [left, top, right, low] = outer, size = Math.max(right - left, low - top, 10), unit = size / 480, edge = 26 * unit;
+    const marks = drawn("g", {}), svg = drawn("svg", { class: "drawn", role: "img", "aria-label": text("drawing.picture",
+        { pieces: begins.length }), viewBox: `${left - edge} ${top - edge} ${right - left + 2 * edge} ${low - top + 2 * edge}` },
+    frame && drawn("rect", frame), blocks.map(block => blockParts(block, unit)), begins.map((point, k) => mark(point, unit, number(k + 1))), marks);
+    return { svg, marks, unit };
+}
+
+// Rings at places, or at the point that is chosen.
+export function rings(points, unit, kind) {
+    return points.map(point => mark(point, unit, drawn("circle", { class: kind, r: 8 })));
+}
+
+// The index of the listed point that is nearest to a place of the picture, in its own units.
+export function nearestPoint(points, svg, clientX, clientY) {
     const place = new DOMPoint(clientX, clientY).matrixTransform(svg.getScreenCTM().inverse());
-    let found = null, least = Infinity;
-    for (const point of blocks.flatMap(({ lines }) => lines.flat())) {
-        const far = Math.hypot(point[0] - place.x, point[1] - place.y);
-        if (far < least) [found, least] = [point, far];
+    let found = 0, least = Infinity;
+    for (let k = 0; 2 * k < points.length; k++) {
+        const far = Math.hypot(points[2 * k] - place.x, points[2 * k + 1] - place.y);
+        if (far < least) [found, least] = [k, far];
     }
     return found;
 }

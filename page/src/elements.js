@@ -25,8 +25,29 @@ export function drawn(tag, attributes = {}, ...children) {
 }
 
 // A button with a text of texts.json.
-export function button(key, click, attributes = {}) {
-    return make("button", { type: "button", click, ...attributes }, text(key));
+export function button(key, click, attributes = {}, values = {}) {
+    return make("button", { type: "button", click, ...attributes }, text(key, values));
+}
+
+// A function that draws what it is given, unless it was given the same before: what is shown stays as it is, with its focus.
+export function painter(draw) {
+    let before = null;
+    return (...given) => {
+        if (before && before.length === given.length && given.every((part, k) => part === before[k])) return;
+        before = given;
+        draw(...given);
+    };
+}
+
+// Shows words in an element for what was said, as a refusal where they are one.
+export function say(element, words, isRefused = false) {
+    element.textContent = words ?? "";
+    element.classList.toggle("refused", isRefused);
+}
+
+// Sets the value of a control, unless someone types in it.
+export function setValue(control, value) {
+    if (document.activeElement !== control) control.value = value;
 }
 
 // A control with its label before it, and a unit after it.
@@ -58,6 +79,18 @@ export function millimetres(tenths, attributes = {}) {
     return make("input", { type: "number", step: "0.1", inputmode: "decimal", value: tenths / 10, ...attributes });
 }
 
+// A square of a colour.
+export function swatch(colour) {
+    const square = make("span", { class: "swatch" });
+    square.style.background = colour;
+    return square;
+}
+
+// A menu of threads.
+export function threadMenu(threads, attributes) {
+    return menu(threads.map(({ number, name }) => [number, `${number} ${name}`]), attributes);
+}
+
 // The tenths of a field for millimetres.
 export function tenthsOf(input) {
     return Math.round(Number(input.value) * 10);
@@ -87,8 +120,15 @@ export function centreIn(frame, element) {
     frame.scrollBy((inner.left + inner.right - outer.left - outer.right) / 2, (inner.top + inner.bottom - outer.top - outer.bottom) / 2);
 }
 
-// Replaces what an element holds.
+// What a control is called.
+const nameOf = control => control.getAttribute("aria-label") ?? control.labels?.[0]?.textContent ?? control.textContent;
+
+// Replaces what an element holds. A control that has the focus keeps it, where there is one again that is called the same.
 export function fill(element, ...children) {
+    const before = element.contains(document.activeElement) && element !== document.activeElement ? document.activeElement : null;
+    const name = before && nameOf(before);
     element.replaceChildren(...children.flat(Infinity).filter(child => child !== null && child !== undefined && child !== false));
+    const again = before && [...element.querySelectorAll(before.localName)].find(one => nameOf(one) === name);
+    again?.focus({ preventScroll: true });
     return element;
 }

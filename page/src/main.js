@@ -1,20 +1,21 @@
-// Starts the page: the module, the runner, the views.
+// Starts the page: the module, the runner, the work that was kept, the views.
+import { isUnsaved, openFiles } from "./actions.js";
 import { useRunner } from "./commands.js";
 import { fill, make } from "./elements.js";
-import { readFile } from "./files.js";
 import { Runner, Stopped } from "./runner.js";
+import { askAgain, change, isStopped, state, useStore } from "./state.js";
 import { statusBar } from "./status_bar.js";
+import { isKept, keepNow, keepSoon, keptWork } from "./storage.js";
+import { drawingOfSvg, openSvg } from "./svg_files.js";
 import { tabsOf } from "./tabs.js";
-import { drawingOf, parseSvg } from "./svg_drawing.js";
 import { text } from "./texts.js";
 import { checkView } from "./view_check.js";
 import { convertView } from "./view_convert.js";
+import { designView } from "./view_design.js";
 import { drawingView } from "./view_drawing.js";
-import { keepView } from "./view_keep.js";
 import { openView } from "./view_open.js";
 import { playView } from "./view_play.js";
 import { provedView } from "./view_proved.js";
-import { routeView } from "./view_route.js";
 
 const part = id => document.getElementById(id).textContent;
 
@@ -25,24 +26,32 @@ async function moduleOf(base64) {
     return WebAssembly.compile(await new Response(stream).arrayBuffer());
 }
 
-// Shows the page of views over a runner.
-function showPage(runner, bar) {
-    const home = { open: name => tabs.opened(name), examples: JSON.parse(part("examples")), theorems: part("theorems-source") };
-    const views = { open: openView(home), drawing: drawingView(home), route: routeView(home), play: playView(home), keep: keepView(home),
-        check: checkView(home), convert: convertView(home), proved: provedView(home) };
+// Shows the page over what is open.
+function showPage(bar) {
+    const views = { open: openView(), drawing: drawingView(), design: designView(), play: playView(), check: checkView(), convert: convertView(),
+        proved: provedView(part("theorems-source")) };
     const tabs = tabsOf(views);
-    tabs.panels.forEach((panel, k) => panel.append(Object.values(views)[k].element));
     document.addEventListener("dragover", event => event.preventDefault());
-    document.addEventListener("drop", async event => {
+    document.addEventListener("drop", event => {
         event.preventDefault();
-        if (!event.dataTransfer.files.length) return;
-        const files = await Promise.all([...event.dataTransfer.files].map(readFile));
-        tabs.opened("open");
-        await views.open.openFiles(files);
+        if (event.dataTransfer.files.length) openFiles([...event.dataTransfer.files], openSvg);
     });
     fill(document.body, make("header", {}, make("h1", {}, text("page.name")), make("p", {}, text("page.what")), make("nav", {}, tabs.list)),
         make("main", {}, tabs.panels), bar.element);
-    tabs.open("open");
+    useStore({ wanted: () => views[state.view].wants(), keep: values => keepSoon(state, values), show: () => {
+        tabs.show();
+        views[state.view].show();
+        bar.say(state.acting, isStopped());
+    } });
+}
+
+// What was made and not saved is asked about before the page goes. It is kept in any case, where the browser keeps anything.
+function keepOnLeaving() {
+    window.addEventListener("beforeunload", event => {
+        if (isUnsaved()) event.preventDefault();
+    });
+    document.addEventListener("visibilitychange", keepNow);
+    window.addEventListener("pagehide", keepNow);
 }
 
 // A run that was stopped needs no word: the bar says so. What else fails is shown.
@@ -50,25 +59,18 @@ window.addEventListener("unhandledrejection", event => {
     if (event.reason instanceof Stopped) event.preventDefault();
 });
 
-// The drawing of an SVG file's text.
-function svgOf(source, options) {
-    try {
-        return drawingOf(parseSvg(source), options);
-    } catch (why) {
-        return { refused: [why.message] };
-    }
-}
-
 async function start() {
     document.title = text("page.title");
     let bar = null;
-    const runner = new Runner(await moduleOf(part("module")), part("worker"), () => bar?.changed());
-    bar = statusBar(runner);
+    const runner = new Runner(await moduleOf(part("module")), part("worker"), () => bar?.changed()), work = await keptWork();
+    bar = statusBar(runner, askAgain);
     useRunner(runner);
-    showPage(runner, bar);
+    showPage(bar);
+    keepOnLeaving();
+    change({ ...work, refusals: isKept() ? [] : [text("page.notKept")] });
     // what a test in a browser calls
-    window.stitch = { run: (...words) => runner.run(...words), programs: [...runner.programs], svg: svgOf,
-        runs: () => Boolean(runner.running || runner.waiting.length) };
+    window.stitch = { run: (...words) => runner.run(...words), programs: [...runner.programs], svg: drawingOfSvg,
+        runs: () => Boolean(runner.running || runner.waiting.length || state.acting), count: () => runner.count };
 }
 
 if (!document.documentElement.classList.contains("unable")) start();

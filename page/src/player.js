@@ -1,89 +1,98 @@
-// A picture of a design that grows needle by needle, on a canvas.
-import { extentOfActs } from "./design.js";
+// A picture of a design that grows needle by needle, on two canvases: the threads, and the needle points above them.
+import { KINDS } from "./design.js";
+import { fitOf } from "./hoop.js";
 import { threadOf } from "./threads.js";
 
-const MARGIN = 24;
+const MARGIN = 24, [NEEDLE, FLOAT, TRIM, STOP] = KINDS.keys();
+// Milliseconds between two turns of the screen above which fewer acts are drawn at once, and how many that are.
+const SLOW = 40, [LEAST, MOST] = [200, 20000];
 
 export class Player {
-    constructor(canvas) {
-        this.canvas = canvas;
-        this.pen = canvas.getContext("2d");
-        Object.assign(this, { acts: null, shown: 0 });
+    // `moved` is called with where the needle is, or null.
+    constructor(threads, holes, moved) {
+        Object.assign(this, { canvases: [threads, holes], pens: [threads, holes].map(canvas => canvas.getContext("2d")), moved });
+        Object.assign(this, { acts: null, shown: 0, wanted: 0, going: null, hoop: null, before: 0, count: 2000 });
     }
 
-    // Takes the acts of a design.
-    load(acts) {
-        Object.assign(this, { acts, extent: extentOfActs(acts), shown: 0 });
+    // Takes the acts of a design, and the hoop.
+    load(acts, hoop) {
+        Object.assign(this, { acts, hoop, wanted: 0 });
         this.fit();
     }
 
     // Fits the design into the canvas as large as it is on the screen, and draws it again.
     fit() {
-        const { canvas, extent } = this, ratio = window.devicePixelRatio || 1;
-        [canvas.width, canvas.height] = [canvas.clientWidth * ratio, canvas.clientHeight * ratio].map(Math.round);
-        if (!extent) return;
-        const [left, top, right, low] = extent, room = MARGIN * ratio;
-        const by = Math.min((canvas.width - 2 * room) / Math.max(right - left, 1), (canvas.height - 2 * room) / Math.max(low - top, 1));
-        this.scale = by;
-        this.place = k => [(this.acts.xs[k] - (left + right) / 2) * by + canvas.width / 2, (this.acts.ys[k] - (top + low) / 2) * by + canvas.height / 2];
-        const shown = this.shown;
+        const ratio = window.devicePixelRatio || 1, [{ clientWidth, clientHeight }] = this.canvases;
+        for (const canvas of this.canvases) [canvas.width, canvas.height] = [clientWidth * ratio, clientHeight * ratio].map(Math.round);
+        if (!this.acts?.extent) return;
+        const [left, top, right, low] = this.acts.extent, size = [right - left, low - top], room = MARGIN * ratio;
+        const sides = this.hoop && (fitOf(size, this.hoop).isTurned ? this.hoop.toReversed() : this.hoop);
+        const [width, height] = size.map((side, k) => Math.max(side, sides?.[k] ?? 0, 1)), [{ width: across, height: down }] = this.canvases;
+        const by = Math.min((across - 2 * room) / width, (down - 2 * room) / height);
+        Object.assign(this, { scale: by, ratio, sides });
+        this.place = k => [(this.acts.xs[k] - (left + right) / 2) * by + across / 2, (this.acts.ys[k] - (top + low) / 2) * by + down / 2];
         this.clear();
-        this.showTo(shown);
+        this.showTo(this.wanted);
     }
 
     clear() {
-        this.pen.clearRect(0, 0, this.canvas.width, this.canvas.height);
+        const [{ width, height }] = this.canvases, [pen] = this.pens;
+        for (const one of this.pens) one.clearRect(0, 0, width, height);
         this.shown = 0;
+        if (!this.sides) return;
+        const [across, down] = this.sides.map(side => side * this.scale);
+        Object.assign(pen, { strokeStyle: "#5a5f69", lineWidth: 1.5 * this.ratio });
+        pen.strokeRect((width - across) / 2, (height - down) / 2, across, down);
     }
 
-    // Shows the acts before an index.
+    // Shows the acts before an index, in turns with all else that the page does.
     showTo(end) {
+        this.wanted = end;
+        if (!this.acts?.extent) return;
         if (end < this.shown) this.clear();
-        if (!this.extent) return;
-        const { pen, acts } = this, ratio = window.devicePixelRatio || 1;
-        pen.lineCap = pen.lineJoin = "round";
-        for (let k = this.shown; k < end;) k = this.stroke(k, end, ratio);
-        this.shown = end;
-        this.showNeedle(acts, end, ratio);
+        this.moved(end ? this.place(end - 1).map(part => part / this.ratio) : null);
+        this.goOn();
+    }
+
+    // Draws what is wanted next, as long as the canvas is shown.
+    goOn(time = 0) {
+        cancelAnimationFrame(this.going);
+        if (!this.canvases[0].clientWidth) return;
+        if (time) this.count = Math.min(Math.max(time - this.before > SLOW ? this.count >> 1 : 2 * this.count, LEAST), MOST);
+        for (const pen of this.pens) pen.lineCap = pen.lineJoin = "round";
+        const end = Math.min(this.wanted, this.shown + this.count);
+        while (this.shown < end) this.shown = this.stroke(this.shown, end);
+        this.before = time;
+        if (this.shown < this.wanted) this.going = requestAnimationFrame(next => this.goOn(next));
     }
 
     // Draws the acts of one thread from an index, and returns the index after them.
-    stroke(from, end, ratio) {
-        const { pen, acts: { kinds, blocks, threads } } = this, block = blocks[from];
+    stroke(from, end) {
+        const { pens: [pen, holes], ratio, acts: { kinds, blocks, threads } } = this, block = blocks[from], far = 1.3 * ratio;
+        const hasHoles = this.scale > 0.4 * ratio;
         let k = from;
         pen.beginPath();
-        for (; k < end && blocks[k] === block && k - from < 5000; k++) {
-            const isLoose = k === 0 || kinds[k - 1] === "trim" || kinds[k - 1] === "stop";
-            if (kinds[k] === "trim") this.cross(k, ratio);
-            if (kinds[k] === "needle" && !isLoose) {
+        holes.fillStyle = "#222";
+        for (; k < end && blocks[k] === block; k++) {
+            const isLoose = k === 0 || kinds[k - 1] === TRIM || kinds[k - 1] === STOP, [x, y] = this.place(k);
+            if (kinds[k] === TRIM) this.cross(x, y);
+            if (kinds[k] === NEEDLE && !isLoose) {
                 pen.moveTo(...this.place(k - 1));
-                pen.lineTo(...this.place(k));
-            } else if (kinds[k] === "float") {
-                this.dash(k, ratio);
+                pen.lineTo(x, y);
+            } else if (kinds[k] === FLOAT && k > 0) {
+                this.dash(k);
             }
+            if (hasHoles && kinds[k] === NEEDLE) holes.fillRect(x - far, y - far, 2 * far, 2 * far);
         }
-        pen.strokeStyle = threadOf(threads[block]).colour;
-        pen.lineWidth = Math.max(1.4 * ratio, Math.min(4 * this.scale, 4 * ratio));
+        Object.assign(pen, { strokeStyle: threadOf(threads[block]).colour, lineWidth: Math.max(1.4 * ratio, Math.min(4 * this.scale, 4 * ratio)) });
         pen.stroke();
-        if (this.scale > 0.4 * ratio) this.holes(from, k, ratio);
         return Math.max(k, from + 1);
     }
 
-    // The needle holes of acts from an index to another.
-    holes(from, end, ratio) {
-        const { pen, acts: { kinds } } = this, far = 1.3 * ratio;
-        pen.fillStyle = "#222";
-        for (let k = from; k < end; k++) {
-            if (kinds[k] === "trim" || kinds[k] === "stop") continue;
-            const [x, y] = this.place(k);
-            pen.fillRect(x - far, y - far, 2 * far, 2 * far);
-        }
-    }
-
     // A float: a straight way of dots in the path that goes on.
-    dash(k, ratio) {
-        const { pen } = this, [x, y] = this.place(k - 1), [u, v] = this.place(k), count = Math.max(2, Math.hypot(u - x,
-            v - y) / (6 * ratio));
+    dash(k) {
+        const { pens: [pen], ratio } = this, [x, y] = this.place(k - 1), [u, v] = this.place(k);
+        const count = Math.max(2, Math.hypot(u - x, v - y) / (6 * ratio));
         for (let part = 0; part < count; part++) {
             const [s, t] = [part / count, (part + 0.4) / count];
             pen.moveTo(x + s * (u - x), y + s * (v - y));
@@ -92,17 +101,11 @@ export class Player {
     }
 
     // A trim: a cross at the last needle.
-    cross(k, ratio) {
-        const { pen } = this, [x, y] = this.place(k), far = 4 * ratio;
+    cross(x, y) {
+        const { pens: [pen], ratio } = this, far = 4 * ratio;
         pen.moveTo(x - far, y + far);
         pen.lineTo(x + far, y + 3 * far);
         pen.moveTo(x + far, y + far);
         pen.lineTo(x - far, y + 3 * far);
-    }
-
-    // Where the needle is: a mark that lies over the canvas.
-    showNeedle(acts, end, ratio) {
-        const at = end ? this.place(end - 1).map(part => part / ratio) : null;
-        this.needle?.(at);
     }
 }

@@ -4,5 +4,6 @@ import { text } from "./texts.js";
 export class Refused extends Error {
     constructor(key, values = {}) {
         super(text(key, values));
+        Object.assign(this, { key, values });
     }
 }

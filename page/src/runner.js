@@ -1,4 +1,4 @@
-// Runs programs in a worker, one after another. It says what runs, and can stop it.
+// Runs programs and tasks in a worker, one after another. It says what runs, and can stop it.
 import { text } from "./texts.js";
 
 // A run that was stopped.
@@ -15,10 +15,26 @@ export class Runner {
         Object.assign(this, { waiting: [], running: null, worker: null, last: null, count: 0 });
     }
 
-    // The reply of a program to its arguments and files.
-    run(program, words, files) {
+    // The reply of a program to its arguments and files, or what a digest of digests.js makes of it.
+    run(program, words, files, { digest = null, signal = null } = {}) {
+        return this.queued({ program, words, files, digest }, signal);
+    }
+
+    // The result of a task of the worker that is no program.
+    task(task, given, signal = null) {
+        return this.queued({ program: task, words: [], task, given }, signal);
+    }
+
+    // Queues a message. Its run ends when the signal says so.
+    queued(message, signal) {
         return new Promise((resolve, reject) => {
-            this.waiting.push({ id: ++this.count, program, words, files, resolve, reject });
+            const job = { message: { ...message, id: ++this.count }, resolve, reject };
+            if (signal?.aborted) {
+                reject(new Stopped(text("run.stopped")));
+                return;
+            }
+            signal?.addEventListener("abort", () => this.drop(job));
+            this.waiting.push(job);
             this.next();
         });
     }
@@ -29,8 +45,7 @@ export class Runner {
         this.worker ??= this.hired();
         this.running = this.waiting.shift();
         this.running.began = performance.now();
-        const { id, program, words, files } = this.running;
-        this.worker.postMessage({ id, program, words, files });
+        this.worker.postMessage(this.running.message);
         this.changed();
     }
 
@@ -38,7 +53,7 @@ export class Runner {
     hired() {
         const worker = new Worker(this.source);
         worker.onmessage = ({ data }) => this.ended(data);
-        worker.onerror = event => this.ended({ id: this.running?.id, failed: event.message });
+        worker.onerror = event => this.ended({ id: this.running?.message.id, failed: event.message });
         worker.postMessage({ module: this.module });
         return worker;
     }
@@ -46,23 +61,35 @@ export class Runner {
     // Takes the reply of the run that goes on.
     ended(reply) {
         const done = this.running;
-        if (done?.id !== reply.id) return;
+        if (done?.message.id !== reply.id) return;
+        const { program, words } = done.message;
         this.running = null;
-        this.last = { program: done.program, words: done.words, milliseconds: reply.milliseconds };
+        this.last = { program, words, milliseconds: reply.milliseconds };
         done.resolve(reply.failed || reply.outcome > 4
-            ? { ...reply, outcome: 4, out: "", err: text("run.failed", { program: done.program,
-                why: reply.failed ?? text(`run.${reply.outcome}`) }), files: [] }
+            ? { ...reply, outcome: 4, out: "", err: text("run.failed", { program, why: reply.failed ?? text(`run.${reply.outcome}`) }),
+                files: [] }
             : reply);
+        this.changed();
+        this.next();
+    }
+
+    // Ends one run, whether it goes on or waits.
+    drop(job) {
+        if (this.running === job) {
+            this.worker.terminate();
+            Object.assign(this, { worker: null, running: null });
+        } else if (this.waiting.includes(job)) {
+            this.waiting = this.waiting.filter(one => one !== job);
+        } else {
+            return;
+        }
+        job.reject(new Stopped(text("run.stopped")));
         this.changed();
         this.next();
     }
 
     // Ends the run that goes on, and those that wait.
     stop() {
-        this.worker?.terminate();
-        const given = [...this.running ? [this.running] : [], ...this.waiting];
-        Object.assign(this, { worker: null, running: null, waiting: [] });
-        for (const { reject } of given) reject(new Stopped(text("run.stopped")));
-        this.changed();
+        for (const job of [...this.waiting, ...this.running ? [this.running] : []]) this.drop(job);
     }
 }

@@ -1,9 +1,8 @@
-// The drawing of an SVG file: its lines as whole points, by threads of the palette, and its text.
+// The drawing of the strokes of an SVG file: its lines as whole points, by threads of the palette, and its text.
 // Lengths are tenths of a millimetre, but for `within` and `apart`: millimetres. The rules are those of examples/svg_drawing.py.
 import { Refused } from "./refused.js";
-import { kindOf } from "./svg_style.js";
+import { linesOf } from "./svg_paths.js";
 import { MAX_POINTS, atExtremes, pointsOf, rounded } from "./svg_points.js";
-import { Reader, plain } from "./svg_strokes.js";
 import { text } from "./texts.js";
 import { nearestThread, threadOf } from "./threads.js";
 
@@ -17,19 +16,37 @@ function extentOf(points) {
     return [least(points, 0), least(points, 1), most(points, 0), most(points, 1)];
 }
 
-// The root of a document.
-export function parseSvg(source) {
-    const found = new DOMParser().parseFromString(source, "image/svg+xml");
-    const fault = found.getElementsByTagName("parsererror")[0];
-    if (fault) throw new Refused("svg.xml", { why: plain(fault.textContent).replace(/^.*?error on/, "error on").slice(0, 120) });
-    if (kindOf(found.documentElement) !== "svg") throw new Refused("svg.notSvg");
-    return found.documentElement;
+// A map of points, a b c d e f: x becomes a x + c y + e, and y becomes b x + d y + f. Points of a shape are px, of which 96 are an inch.
+function placed([a, b, c, d, e, f], [x, y]) {
+    const point = [a * x + c * y + e, b * x + d * y + f].map(part => part * 254 / 96);
+    if (!(Math.abs(point[0]) + Math.abs(point[1]) < 1e9)) throw new Refused("svg.large");
+    return point;
 }
 
-// The title of a document as a label of at most 16 bytes without spaces.
-function titleOf(root) {
-    const title = [...root.children].find(child => kindOf(child) === "title");
-    return plain(title?.textContent ?? "").replaceAll(" ", "-").slice(0, 16).replace(/-+$/, "");
+// The lines of what a Reader found by colour, each with its label, and what is left out: `faults`, which aren't lines, by name,
+// and the counts of the rest. Of shapes with a fill alone, or without a stroke, the outlines are lines where that is chosen.
+function collected({ entries, notes, title }, { outlines = false }) {
+    const found = { blocks: new Map(), faults: [], leftOut: new Map(), notes, title };
+    const leave = (what, count) => found.leftOut.set(what, (found.leftOut.get(what) ?? 0) + count);
+    for (const entry of entries) {
+        if (entry.path !== undefined && (outlines || !entry.leave && !entry.fault)) addShape(entry, found, leave);
+        else if (entry.leave) leave(entry.leave, 1);
+        else found.faults.push(entry);
+    }
+    return found;
+}
+
+// Adds the lines of a shape to the block of its colour.
+function addShape({ name, path, map, colour, label }, { blocks, faults }, leave) {
+    try {
+        const lines = linesOf(path).map(line => line.map(piece => piece.map(point => placed(map, point))));
+        leave("empty", lines.length ? 0 : 1);
+        if (!blocks.has(colour)) blocks.set(colour, []);
+        blocks.get(colour).push(...lines.map(line => [label, line]));
+    } catch (why) {
+        if (!(why instanceof Refused)) throw why;
+        faults.push({ name, fault: why.key, words: why.message });
+    }
 }
 
 // The lines, cut where they reach the edges of the drawing, and as wide as requested. Left and upper edge stay.
@@ -54,8 +71,8 @@ function mapLines(blocks, change) {
 }
 
 // The lines of whole points by colour. Those of a single point are counted.
-function wholeLines(reader, width, within, apart) {
-    const drawn = reader.blocks.size && [...reader.blocks.values()].some(lines => lines.length) ? scaled(reader.blocks, width) : new Map();
+function wholeLines({ blocks: given, leftOut }, width, within, apart) {
+    const drawn = [...given.values()].some(lines => lines.length) ? scaled(given, width) : new Map();
     const curves = [...drawn.values()].flat().flatMap(([, line]) => line).filter(piece => piece.length === 4);
     const way = sum(curves.map(([a, , , d]) => Math.hypot(d[0] - a[0], d[1] - a[1])));
     if (way > MAX_POINTS * 10 * apart) throw new Refused("svg.points", { most: MAX_POINTS });
@@ -66,7 +83,7 @@ function wholeLines(reader, width, within, apart) {
             const points = pointsOf(line, 10 * within, 10 * apart);
             total += points.length;
             if (total > MAX_POINTS) throw new Refused("svg.points", { most: MAX_POINTS });
-            if (points.length < 2) reader.leave("point");
+            if (points.length < 2) leftOut.set("point", (leftOut.get("point") ?? 0) + 1);
             else if (blocks.has(colour)) blocks.get(colour).push([label, points]);
             else blocks.set(colour, [[label, points]]);
         }
@@ -124,27 +141,30 @@ function textOf(blocks, title, step, chosen) {
     return `${lines.join("\n")}\n`;
 }
 
-// The drawing of a document: its text, its colours with their threads, its size and middle, what was left out (`faults`, each
-// named, and `leftOut`, a line with counts), and what is to be heeded (`notes`).
-export function drawingOf(root, options = {}) {
+// The drawing of the strokes that a Reader found: its text, its colours with their threads, its size and middle, what was left out
+// (`faults`, each named, and `leftOut`, a line with counts), and what is to be heeded (`notes`). Or why there is none: `refused`,
+// each with its key, and whether something is left without the things that are refused.
+export function drawingOf(strokes, options = {}) {
     const { step = 25, within = 0.1, apart = 0.5, width = null, isCentred = false, skip = false, threads = {} } = options;
     try {
-        const reader = new Reader(root);
-        const found = reader.faults.length && !skip ? new Map() : wholeLines(reader, width, within, apart);
-        const counted = [...reader.leftOut].filter(([, count]) => count).map(([what, count]) => text(`svg.left.${what}`, { count }));
-        const leftOut = counted.length ? text("svg.left", { list: counted.join(", ") }) : "";
-        if (!found.size) {
-            const nothing = text("svg.nothing") + (leftOut && `; ${leftOut}`);
-            return { refused: reader.faults.length ? reader.faults : [nothing], isSkippable: reader.faults.length > 0 };
+        const all = collected(strokes, options), { faults, notes, title } = all;
+        const kept = skip === true ? [] : faults.filter(({ fault }) => !(skip || []).includes(fault));
+        if (kept.length) {
+            return { refused: kept.map(({ fault, name, words }) => ({ key: fault, words: `${name}: ${words}` })),
+                isSkippable: [...all.blocks.values()].some(lines => lines.length) };
         }
+        const found = wholeLines(all, width, within, apart);
+        const counted = [...all.leftOut].filter(([, count]) => count).map(([what, count]) => text(`svg.left.${what}`, { count }));
+        const leftOut = counted.length ? text("svg.left", { list: counted.join(", ") }) : "";
+        if (!found.size) throw new Refused(faults.length ? "svg.nothingLeft" : "svg.nothing", { leftOut: leftOut && `; ${leftOut}` });
         const { blocks, size, middle } = centred(found, isCentred);
         checkLimits(blocks, step);
         const colours = [...blocks.keys()].map(key => colourOf(key, threads));
-        const notes = width === null ? reader.notes : [];
-        return { text: textOf(blocks, titleOf(root), step, threads), colours, size, middle, faults: reader.faults, leftOut, notes };
+        return { text: textOf(blocks, title, step, threads), colours, size, middle, leftOut, notes: width === null ? notes : [],
+            faults: faults.map(({ name, words }) => `${name}: ${words}`) };
     } catch (why) {
-        if (why instanceof RangeError) return { refused: [text("svg.tooDeep")] };
-        if (why instanceof Refused) return { refused: [why.message] };
+        if (why instanceof RangeError) return { refused: [{ key: "svg.tooDeep", words: text("svg.tooDeep") }] };
+        if (why instanceof Refused) return { refused: [{ key: why.key, words: why.message, values: why.values }] };
         throw why;
     }
 }

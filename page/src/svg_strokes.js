@@ -3,15 +3,13 @@
 // The browser reads the document, its selectors and the names of its colours. Numbers are read here, since a browser keeps
 // those of shapes and points in single precision, and a clone has no elements. The rules are those of examples/svg_strokes.py.
 import { Refused } from "./refused.js";
-import { linesOf } from "./svg_paths.js";
 import { INHERITED, NUMBER, isClear, kindOf, number, painted, styleOf, styleRules } from "./svg_style.js";
 import { text } from "./texts.js";
 
 const XLINK = "http://www.w3.org/1999/xlink";
 const INKSCAPE = "http://www.inkscape.org/namespaces/inkscape";
-// Lengths of a unit in px, of which 96 are an inch; and of a px in tenths of a millimetre.
+// Lengths of a unit in px, of which 96 are an inch.
 const UNITS = { "": 1, px: 1, mm: 96 / 25.4, cm: 96 / 2.54, in: 96, pt: 4 / 3, pc: 16, q: 96 / 101.6 };
-const PX = 254 / 96;
 const words = list => new Set(list.split(" "));
 // Elements that draw nothing where they stand.
 const PASSED = words("defs symbol clipPath mask marker pattern linearGradient radialGradient meshgradient filter metadata "
@@ -28,9 +26,10 @@ const TRANSFORMS = { matrix: [6], translate: [1, 2], scale: [1, 2], rotate: [1, 
 const SHOWN = words("redwork-look redwork-route");
 // The greatest number of elements, each counted as often as it is cloned.
 const ELEMENTS = 20000;
-
-// What no drawing could hold.
-export class TooMuch extends Refused {}
+// The greatest number of groups in one another.
+const DEPTH = 900;
+// Milliseconds after which the browser has a turn.
+const TURN = 12;
 
 // Affine maps a b c d e f of points: x becomes a x + c y + e, and y becomes b x + d y + f.
 const SAME = [1, 0, 0, 1, 0, 0];
@@ -144,50 +143,77 @@ function shapePath(kind, element, size) {
     return points && `M${points}${kind === "polygon" ? "z" : ""}`;
 }
 
-// A point in tenths of a millimetre, from one in the units of a shape.
-function moved(map, point) {
-    const [x, y] = of(map, point[0], point[1]).map(part => PX * part);
-    if (!(Math.abs(x) + Math.abs(y) < 1e9)) throw new Refused("svg.large");
-    return [x, y];
+// The root of a document.
+export function parseSvg(source) {
+    const found = new DOMParser().parseFromString(source, "image/svg+xml");
+    const fault = found.getElementsByTagName("parsererror")[0];
+    if (fault) throw new Refused("svg.xml", { why: plain(fault.textContent).replace(/^.*?error on/, "error on").slice(0, 120) });
+    if (kindOf(found.documentElement) !== "svg") throw new Refused("svg.notSvg");
+    return found.documentElement;
 }
 
-// Collects the lines of a document's visible strokes by colour, counts what is left out, and lists what isn't a line.
+// The title of a document as a label of at most 16 bytes without spaces.
+function titleOf(root) {
+    const title = [...root.children].find(child => kindOf(child) === "title");
+    return plain(title?.textContent ?? "").replaceAll(" ", "-").slice(0, 16).replace(/-+$/, "");
+}
+
+// Gives the browser a turn.
+const breath = () => new Promise(resolve => {
+    const { port1, port2 } = new MessageChannel();
+    port1.onmessage = () => resolve(port1.close());
+    port2.postMessage(null);
+});
+
+// Collects the visible strokes of a document, counts what is left out, and lists what isn't a line, in the order of the document.
+// `isReleased` reads what is clipped or masked as if it weren't, and `isPlain` leaves the style sheets out.
 export class Reader {
-    constructor(root) {
-        this.root = root;
-        this.byId = new Map();
-        for (const element of [root, ...root.getElementsByTagName("*")]) {
-            const id = element.getAttribute("id");
-            if (id !== null && !this.byId.has(id)) this.byId.set(id, element);
+    constructor(root, { isReleased = false, isPlain = false } = {}) {
+        Object.assign(this, { root, isReleased, isPlain, byId: new Map(), entries: [], notes: [], visits: 0, title: titleOf(root) });
+    }
+
+    // Reads the document, in turns with all else that the page does.
+    async read() {
+        const { root, byId } = this;
+        for (const element of root.querySelectorAll("[id]")) {
+            if (!byId.has(element.getAttribute("id"))) byId.set(element.getAttribute("id"), element);
         }
-        this.rules = styleRules(root);
-        Object.assign(this, { faults: [], leftOut: new Map(), visits: 0, blocks: new Map(), notes: [] });
-        this.visit(root, { map: SAME, style: { ...INHERITED }, size: [null, null], leftOut: "", uses: [], labels: [] });
-    }
-
-    // Counts what is left out, one thing if no count is given.
-    leave(what, count = 1) {
-        this.leftOut.set(what, (this.leftOut.get(what) ?? 0) + count);
-    }
-
-    // Reads an element and all that is in it. A clone is the `use` that refers to the element.
-    visit(element, around, clone = null) {
-        const kind = kindOf(element), id = element.getAttribute("id");
-        if (++this.visits > ELEMENTS) throw new TooMuch("svg.elements", { most: ELEMENTS });
-        if (!kind || SHOWN.has(id) || PASSED.has(kind) && !(kind === "symbol" && clone)) return;
-        try {
-            const place = this.inside(kind, element, around, clone);
-            if (GROUPS.has(kind)) {
-                for (const child of this.shownChildren(kind, element)) this.visit(child, place);
-            } else if (place.leftOut || ["hidden", "collapse"].includes(place.style.visibility)) {
-                this.leave(place.leftOut || "hidden");
-            } else {
-                this.visitLeaf(kind, element, place);
+        if (root.hasAttribute("id")) byId.set(root.getAttribute("id"), root);
+        this.rules = this.isPlain ? [] : styleRules(root);
+        const around = { map: SAME, style: { ...INHERITED }, size: [null, null], leftOut: "", uses: [], labels: [], depth: 0 };
+        const waiting = [[root, around, null]];
+        for (let since = performance.now(); waiting.length;) {
+            if (performance.now() - since > TURN) {
+                await breath();
+                since = performance.now();
             }
-        } catch (why) {
-            if (!(why instanceof Refused) || why instanceof TooMuch) throw why;
-            this.faults.push(`${kind} ${id === null ? text("svg.withoutId") : `'${id}'`}: ${why.message}`);
+            for (const next of this.visit(...waiting.pop()).reverse()) waiting.push(next);
         }
+        return { entries: this.entries, notes: this.notes, title: this.title };
+    }
+
+    leave(what) {
+        this.entries.push({ leave: what });
+    }
+
+    // Reads an element, and returns those to be read next, each with its place. A clone is the `use` that refers to the element.
+    visit(element, around, clone) {
+        const kind = kindOf(element), id = element.getAttribute("id");
+        if (++this.visits > ELEMENTS) throw new Refused("svg.elements", { most: ELEMENTS });
+        if (around.depth > DEPTH) throw new Refused("svg.tooDeep");
+        if (!kind || SHOWN.has(id) || PASSED.has(kind) && !(kind === "symbol" && clone)) return [];
+        const name = `${kind} ${id === null ? text("svg.withoutId") : `'${id}'`}`;
+        try {
+            const place = { ...this.inside(kind, element, around, clone), depth: around.depth + 1 };
+            if (GROUPS.has(kind)) return this.shownChildren(kind, element).map(child => [child, place, null]);
+            if (place.leftOut || ["hidden", "collapse"].includes(place.style.visibility)) this.leave(place.leftOut || "hidden");
+            else if (kind === "use") return [this.cloned(element, place)];
+            else this.visitLeaf(kind, element, place, name);
+        } catch (why) {
+            if (!(why instanceof Refused)) throw why;
+            this.entries.push({ name, fault: why.key, words: why.message });
+        }
+        return [];
     }
 
     // The children of a group that are shown.
@@ -197,10 +223,9 @@ export class Reader {
         return kind === "switch" ? children.slice(0, 1) : children;
     }
 
-    // Reads an element that isn't a group, and is visible.
-    visitLeaf(kind, element, place) {
-        if (kind === "use") this.visitClone(element, place);
-        else if (SHAPES.has(kind)) this.draw(kind, element, place);
+    // Reads an element that is no group and no clone, and is visible.
+    visitLeaf(kind, element, place, name) {
+        if (SHAPES.has(kind)) this.draw(kind, element, place, name);
         else if (kind === "image") throw new Refused("svg.image");
         else if (!TEXTS.has(kind)) throw new Refused("svg.noLine");
         else if (element.textContent.trim()) throw new Refused("svg.text");
@@ -212,7 +237,7 @@ export class Reader {
         const leftOut = around.leftOut || (style.display === "none" ? "hidden" : isClear(style.opacity) ? "transparent" : "");
         if (leftOut) return { ...around, style, leftOut };
         if (style.moves) throw new Refused("svg.moves", { property: style.moves });
-        if (style["clip-path"] !== "none" || style.mask !== "none") throw new Refused("svg.clipped");
+        if (!this.isReleased && (style["clip-path"] !== "none" || style.mask !== "none")) throw new Refused("svg.clipped");
         const map = then(transformOf(element.getAttribute("transform") ?? ""), around.map);
         const label = element.getAttributeNS(INKSCAPE, "label") || element.getAttribute("id");
         const labels = label && (SHAPES.has(kind) || kind === "use") ? [...around.labels, label] : around.labels;
@@ -250,31 +275,46 @@ export class Reader {
         return { ...place, map: then(fitted(element, x, y, ...sides, box), place.map), size: box.slice(2) };
     }
 
-    // Reads what a `use` refers to, at its place.
-    visitClone(element, place) {
+    // What a `use` refers to, with its place.
+    cloned(element, place) {
         const name = (element.getAttribute("href") ?? element.getAttributeNS(XLINK, "href") ?? "").trim();
         const target = name[0] === "#" && name.length > 1 ? this.byId.get(name.slice(1)) : undefined;
         if (!target) throw new Refused("svg.noTarget", { name });
         if (place.uses.includes(target)) throw new Refused("svg.cycle", { name });
         const [x, y] = ["x", "y"].map((axis, k) => lengthOf(axis, element.getAttribute(axis) ?? "0", place.size[k]));
-        this.visit(target, { ...place, map: then(moveBy(x, y), place.map), uses: [...place.uses, target] }, element);
+        return [target, { ...place, map: then(moveBy(x, y), place.map), uses: [...place.uses, target] }, element];
     }
 
-    // Adds the lines of a shape to the block of its colour.
-    draw(kind, element, place) {
-        const { style } = place;
-        const stroke = isClear(style["stroke-width"].replace(/[px]+$/, "")) ? "transparent" : painted(style, "stroke");
+    // Adds a shape with the colour of its stroke. One with a fill alone isn't a line; its outline has the colour of the fill.
+    draw(kind, element, place, name) {
+        const { style, map } = place, stroke = isClear(style["stroke-width"].replace(/[px]+$/, "")) ? "transparent" : painted(style, "stroke");
+        const shape = colour => ({ name, label: plain(place.labels.join("/")), colour, path: shapePath(kind, element, place.size), map });
         if (Array.isArray(stroke)) {
-            const lines = linesOf(shapePath(kind, element, place.size))
-                .map(line => line.map(piece => piece.map(point => moved(place.map, point))));
-            const label = plain(place.labels.join("/")), colour = stroke.join();
-            this.leave("empty", lines.length ? 0 : 1);
-            if (!this.blocks.has(colour)) this.blocks.set(colour, []);
-            this.blocks.get(colour).push(...lines.map(line => [label, line]));
-        } else if (kind !== "line" && (style.fill.startsWith("url(") || Array.isArray(painted(style, "fill")))) {
-            throw new Refused("svg.fill");
-        } else {
-            this.leave(stroke ? "transparent" : "unstroked");
+            this.entries.push(shape(stroke.join()));
+            return;
         }
+        // the outline, where it can be read: it is sewn if that is chosen
+        const outline = colour => {
+            try {
+                return shape(colour);
+            } catch (why) {
+                if (!(why instanceof Refused)) throw why;
+                return { name };
+            }
+        };
+        const fill = kind === "line" ? null : style.fill.startsWith("url(") ? [0, 0, 0] : painted(style, "fill");
+        if (Array.isArray(fill)) this.entries.push({ ...outline(fill.join()), fault: "svg.fill", words: text("svg.fill") });
+        else if (stroke) this.leave("transparent");
+        else this.entries.push({ ...outline("0,0,0"), leave: "unstroked" });
+    }
+}
+
+// The strokes of an SVG file's text, or why it can't be read.
+export async function strokesOf(source, options = {}) {
+    try {
+        return await new Reader(parseSvg(source), options).read();
+    } catch (why) {
+        if (why instanceof Refused) return { refused: [{ key: why.key, words: why.message, values: why.values }] };
+        throw why;
     }
 }

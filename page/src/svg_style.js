@@ -49,20 +49,34 @@ function rankOf(selector, words) {
 // The rules of all style sheets: for each selector its text, its rank and its declarations.
 export function styleRules(root) {
     const sheets = [root, ...root.getElementsByTagName("*")].filter(element => kindOf(element) === "style");
-    const all = sheets.map(sheet => sheet.textContent).join("\n")
-        .replace(/\/\*[^]*?\*\/|<!--|-->|@(?:charset|namespace)[^;]*;|@font-face\s*\{[^{}]*\}/g, "");
-    const rules = [];
-    for (const [, selectors, inside] of all.matchAll(/([^{}]*)\{([^{}]*)\}/g)) {
+    const all = withoutComments(sheets.map(sheet => sheet.textContent).join("\n"))
+        .replace(/<!--|-->|@(?:charset|namespace)[^;]*;|@font-face\s*\{[^{}]*\}/g, "");
+    const rules = [], parts = all.split("}");
+    if (parts.pop().trim()) throw new Refused("svg.sheet");
+    for (const part of parts) {
+        const [selectors, inside, ...more] = part.split("{");
+        if (inside === undefined || more.length) throw new Refused("svg.sheet");
         for (const selector of selectors.split(",")) {
-            const words = selector.replace(/\s*>\s*/g, " > ").split(/\s+/).filter(Boolean);
+            const words = selector.replaceAll(">", " > ").split(/\s+/).filter(Boolean);
             if (!words.every(word => WORD.test(word)) || words.at(-1) === ">") {
                 throw new Refused("svg.selector", { selector: selector.trim() });
             }
             rules.push({ selector: words.join(" "), rank: rankOf(selector, words), list: declarations(inside) });
         }
     }
-    if (all.replace(/[^{}]*\{[^{}]*\}/g, "").trim()) throw new Refused("svg.sheet");
     return rules;
+}
+
+// A style sheet without its comments.
+function withoutComments(sheet) {
+    let words = "", at = 0;
+    for (let begin = sheet.indexOf("/*"); begin >= 0; begin = sheet.indexOf("/*", at)) {
+        const end = sheet.indexOf("*/", begin + 2);
+        if (end < 0) break;
+        words += sheet.slice(at, begin);
+        at = end + 2;
+    }
+    return words + sheet.slice(at);
 }
 
 // Whether a selector names an element; one that the browser can't read is refused.
@@ -125,11 +139,12 @@ function hslParts(hue, saturation, lightness) {
     });
 }
 
-const pen = document.createElement("canvas").getContext("2d");
+let pen = null;
 
 // The colour of a name as the browser knows it, or null.
 function namedColour(word) {
     if (!/^[a-z]+$/.test(word) || word === "currentcolor") return null;
+    pen ??= document.createElement("canvas").getContext("2d");
     const seen = ["#010203", "#030201"].map(first => {
         pen.fillStyle = first;
         pen.fillStyle = word;

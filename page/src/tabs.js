@@ -1,34 +1,40 @@
-// The views of the page, one of which is shown, with their tabs.
+// The views of the page, one of which is in front, with their tabs.
+import { open } from "./actions.js";
 import { make } from "./elements.js";
+import { state } from "./state.js";
 import { text } from "./texts.js";
 
-// Builds the tabs of the views, given by name, and returns their list, their panels and the function that shows one.
+// Builds the tabs of the views, given by name, and returns their list, their panels and the function that shows the one in front.
 export function tabsOf(views) {
     const names = Object.keys(views);
-    const tabs = names.map(name => make("button", { type: "button", role: "tab", id: `tab-${name}`,
-        "aria-controls": `view-${name}`, click: () => open(name) }, text(`tab.${name}`)));
     const panels = names.map(name => make("section", { role: "tabpanel", id: `view-${name}`, "aria-labelledby": `tab-${name}`,
-        tabindex: "-1" }));
+        tabindex: "-1" }, views[name].element));
+    const focusPanel = () => panels[names.indexOf(state.view)].focus({ preventScroll: true });
+    // A click goes to the view with the focus, and keys stay on the tabs.
+    const tabs = names.map(name => make("button", { type: "button", role: "tab", id: `tab-${name}`,
+        "aria-controls": `view-${name}`, click: event => {
+        open(name);
+        if (event.detail) focusPanel();
+    } }, text(`tab.${name}`)));
     const list = make("div", { role: "tablist", "aria-label": text("tab.list"), keydown: event => {
-        const by = { ArrowRight: 1, ArrowLeft: -1, Home: -names.length, End: names.length }[event.key];
-        if (!by) return;
+        const at = tabs.indexOf(document.activeElement), last = names.length - 1;
+        const to = { ArrowRight: at < last ? at + 1 : 0, ArrowLeft: at ? at - 1 : last, Home: 0, End: last }[event.key];
+        if (to === undefined) return;
         event.preventDefault();
-        const at = tabs.indexOf(document.activeElement), to = Math.abs(by) > 1 ? (by < 0 ? 0 : names.length - 1) : (at + by + names.length) % names.length;
         open(names[to]);
         tabs[to].focus();
     } }, tabs);
-    const open = name => {
-        names.forEach((one, k) => {
-            panels[k].hidden = one !== name;
-            tabs[k].setAttribute("aria-selected", one === name);
-            tabs[k].tabIndex = one === name ? 0 : -1;
+    let front = null;
+    const show = () => {
+        if (front === state.view) return;
+        front = state.view;
+        names.forEach((name, k) => {
+            panels[k].hidden = name !== front;
+            tabs[k].setAttribute("aria-selected", name === front);
+            tabs[k].tabIndex = name === front ? 0 : -1;
         });
-        views[name].shown();
-    };
-    const opened = name => {
-        open(name);
-        panels[names.indexOf(name)].focus({ preventScroll: true });
         window.scrollTo(0, 0);
+        if (!tabs.includes(document.activeElement)) focusPanel();
     };
-    return { list, panels, open, opened };
+    return { list, panels, show };
 }

@@ -9,13 +9,15 @@ export function textEditor(changed) {
     const area = make("textarea", { wrap: "off", spellcheck: "false", autocomplete: "off", autocapitalize: "off",
         "aria-label": text("drawing.text"), rows: "14" });
     const gutter = make("div", { class: "gutter", "aria-hidden": "true" }), band = make("div", { class: "band", hidden: true });
-    let waiting = null, marked = null, chosen = null;
+    let waiting = null, marked = null, chosen = null, shown = null;
     const rows = () => area.value.split("\n").length;
     const lineHeight = () => parseFloat(getComputedStyle(area).lineHeight);
     const number = () => {
-        if (gutter.childElementCount === rows() && gutter.dataset.marked === String(marked)) return;
-        gutter.dataset.marked = String(marked);
-        fill(gutter, Array.from({ length: rows() }, (_, k) => make("div", { class: k + 1 === marked ? "wrong" : null }, k + 1)));
+        if (gutter.dataset.rows === String(rows()) && gutter.dataset.marked === String(marked)) return;
+        [gutter.dataset.marked, gutter.dataset.rows] = [String(marked), String(rows())];
+        const numbers = Array.from({ length: rows() }, (_, k) => k + 1), at = marked ? marked - 1 : numbers.length;
+        const [above, below] = [numbers.slice(0, at), numbers.slice(at + 1)].map(list => list.map(count => `${count}\n`).join(""));
+        fill(gutter, above, marked && make("span", { class: "wrong" }, marked), below && marked && "\n", below);
         follow();
     };
     const follow = () => {
@@ -30,21 +32,30 @@ export function textEditor(changed) {
         area.scrollLeft = 0;
         follow();
     };
+    const read = () => {
+        clearTimeout(waiting);
+        waiting = null;
+        changed(area.value);
+    };
     area.addEventListener("scroll", follow);
     area.addEventListener("input", () => {
         number();
         clearTimeout(waiting);
-        waiting = setTimeout(() => changed(area.value), PATIENCE);
+        waiting = setTimeout(read, PATIENCE);
+    });
+    area.addEventListener("change", () => {
+        if (waiting) read();
     });
     return {
         element: make("div", { class: "editor" }, gutter, make("div", { class: "sheet" }, band, area)),
         // Shows a text, unless it is the one that is being typed.
         show: words => {
+            if (shown === words) return;
             if (area.value !== words) {
-                chosen = null;
-                clearTimeout(waiting);
+                [chosen, waiting] = [null, clearTimeout(waiting)];
                 area.value = words;
             }
+            shown = words;
             number();
         },
         // Marks the line that is refused, or none.

@@ -1,66 +1,60 @@
-// The view in which a drawing, a stitch file and a certificate are checked.
-import { check, hasProgram } from "./commands.js";
-import { comparison } from "./design_places.js";
-import { button, chooser, fill, make } from "./elements.js";
-import { kindOfFile, readFile } from "./files.js";
-import { on, state } from "./state.js";
+// The view in which a drawing, a stitch file and a certificate are checked, and two stitch files are compared.
+import { hasProgram } from "./commands.js";
+import { chooser, fill, make, painter, say } from "./elements.js";
+import { kindOfFile, readFiles } from "./files.js";
+import { change, known, state } from "./state.js";
 import { text } from "./texts.js";
 
 const KINDS = { drawing: ".rw,.txt", design: ".dst,.exp,.pec,.pes,.lst", certificate: ".cert" };
 
 export function checkView() {
-    const answer = make("div", { role: "status", class: "answer" });
-    const inputs = Object.fromEntries(Object.entries(KINDS).map(([kind, accept]) => [kind, make("input", { type: "file",
-        accept, change: async () => {
-        const [file] = inputs[kind].files;
-        if (file) take(kind, await readFile(file));
-    } })]));
-    const names = Object.fromEntries(Object.keys(KINDS).map(kind => [kind, make("code", {}, text("check.noFile"))]));
-    const take = (kind, file) => {
-        state.checked = { ...state.checked, [kind]: file };
-        show();
+    const [answer, difference] = [make("div", { role: "status", class: "answer" }), make("div", { role: "status", class: "answer" })];
+    const message = make("p", { class: "refused", role: "alert" });
+
+    // Takes files for what they are: each of the three has a kind of its own.
+    const take = async (given, kinds = Object.keys(KINDS)) => {
+        const { files, refusals } = await readFiles(given), fitting = files.filter(({ name }) => kinds.includes(kindOfFile(name)));
+        const others = files.filter(file => !fitting.includes(file)).map(({ name }) => text("check.other", { name }));
+        change({ checked: { ...state.checked, ...Object.fromEntries(fitting.map(file => [kindOfFile(file.name), file])) },
+            refusals: [...refusals, ...others] });
     };
-    const show = () => {
-        for (const kind of Object.keys(KINDS)) names[kind].textContent = state.checked[kind]?.name ?? text("check.noFile");
-        fill(answer);
-        if (Object.keys(KINDS).every(kind => state.checked[kind])) judge();
-    };
-    const judge = async () => {
-        const { drawing, design, certificate } = state.checked;
-        if (!drawing || !design || !certificate) {
-            fill(answer, make("p", { class: "refused" }, text("check.three")));
-            return;
-        }
-        const reply = await check(drawing, design, certificate);
-        fill(answer, reply.isDone ? [make("p", { class: "yes" }, text("check.yes")), make("p", {}, text("check.yesMeans")),
-            make("p", { class: "hint" }, text("check.yesNot"))]
-            : [make("p", { class: "no" }, text("check.no")), make("p", {}, make("code", {}, reply.err.trim()))]);
-    };
-    // Two stitch files of any formats, and the first difference between them.
-    const two = [null, null], difference = make("div", { role: "status", class: "answer" });
-    const choosers = ["compare.one", "compare.other"].map((key, k) => {
-        const name = make("code", {}, text("check.noFile")), input = make("input", { type: "file", accept: KINDS.design,
-            change: async () => {
-            two[k] = input.files[0] ? await readFile(input.files[0]) : two[k];
-            name.textContent = two[k]?.name ?? text("check.noFile");
-            if (two.every(Boolean)) fill(difference, await comparison(...two));
+    const names = [];
+    const fileChooser = (key, accept, take, nameOf) => {
+        const name = make("code"), input = make("input", { type: "file", accept, change: async () => {
+            if (input.files[0]) await take([...input.files]);
+            input.value = "";
         } });
+        names.push(() => say(name, nameOf() ?? text("check.noFile")));
         return chooser(key, input, name, { class: "drop small" });
-    });
-    const compared = hasProgram("stitch_design") && [make("h3", {}, text("compare.title")), make("div", { class: "ways" },
-        choosers), difference];
-    const element = make("div", {}, make("h2", {}, text("check.title")), make("p", {}, text("check.lead")),
-        make("div", { class: "three" }, Object.keys(KINDS).map(kind => chooser(`check.${kind}`, inputs[kind], names[kind],
-            { class: "drop small" }))),
-        make("div", { class: "onward" }, button("check.go", judge, { class: "primary" })), answer, compared);
-    element.addEventListener("drop", async event => {
+    };
+    const three = Object.entries(KINDS).map(([kind, accept]) => fileChooser(`check.${kind}`, accept, files => take(files, [kind]),
+        () => state.checked[kind]?.name));
+    const two = ["compare.one", "compare.other"].map((key, k) => fileChooser(key, KINDS.design, async given => {
+        const { files, refusals } = await readFiles(given);
+        change({ compared: state.compared.map((one, j) => j === k ? files[0] ?? one : one), refusals });
+    }, () => state.compared[k]?.name));
+
+    const paintAnswer = painter((found, isThree) => fill(answer, !isThree ? make("p", { class: "hint" }, text("check.three")) : !found
+        ? make("p", {}, text("check.going")) : found.refused ? make("p", { class: "refused" }, found.refused)
+            : found.isYes ? [make("p", { class: "yes" }, text("check.yes")), found.isBare && make("p", {}, text("check.bareYes")),
+                make("p", {}, text("check.yesMeans")), make("p", { class: "hint" }, text("check.yesNot"))]
+                : [make("p", { class: "no" }, text("check.no")), found.isBare && make("p", {}, text("check.bareNo")), make("p", {}, make("code", {},
+                    found.why))]));
+    const paintDifference = painter(found => fill(difference, found && (found.isSame ? make("p", { class: "yes" }, text("compare.same"))
+        : make("p", { class: "refused" }, found.why ?? found.refused))));
+    const element = make("div", {}, make("h2", {}, text("check.title")), make("p", {}, text("check.lead")), message,
+        make("div", { class: "three" }, three), answer,
+        hasProgram("stitch_design") && [make("h3", {}, text("compare.title")), make("div", { class: "ways" }, two), difference]);
+    element.addEventListener("drop", event => {
         event.preventDefault();
         event.stopPropagation();
-        for (const file of await Promise.all([...event.dataTransfer.files].map(readFile))) {
-            const kind = kindOfFile(file.name);
-            if (KINDS[kind]) take(kind, file);
-        }
+        take([...event.dataTransfer.files]);
     });
-    on("checked", show);
-    return { element, shown: () => {} };
+    const show = () => {
+        say(message, state.refusals.join("\n"), true);
+        for (const one of names) one();
+        paintAnswer(known("verdict"), Object.keys(KINDS).every(kind => state.checked[kind]));
+        paintDifference(known("compared"));
+    };
+    return { element, wants: () => ["verdict", ...hasProgram("stitch_design") ? ["compared"] : []], show };
 }

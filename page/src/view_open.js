@@ -1,128 +1,120 @@
-// The view in which files are opened: drawings, SVG files with their threads and their size, stitch files and certificates.
-import { sample } from "./commands.js";
-import { button, chooser, field, fill, make, menu, millimetres, mm, table, tenthsOf } from "./elements.js";
-import { baseOf, bytesOfText, kindOfFile, readFile, textOfBytes } from "./files.js";
-import { addStep, openDrawing, state, tell } from "./state.js";
-import { drawingOf, parseSvg } from "./svg_drawing.js";
-import { Refused } from "./refused.js";
+// The view in which files are opened: what the page is for, drawings, SVG files with their size and threads, stitch files.
+import { makeReady, open, openFiles, openNew, openOne, openSample } from "./actions.js";
+import { button, chooser, field, fill, make, millimetres, painter, swatch, table, tenthsOf, threadMenu } from "./elements.js";
+import { examples } from "./examples.js";
+import { bytesOfText } from "./files.js";
+import { hoopAdvice, hoopControl } from "./hoop.js";
+import { drawn, known, state } from "./state.js";
+import { makeWide, openSvg, readAgain } from "./svg_files.js";
 import { text } from "./texts.js";
 import { THREADS } from "./threads.js";
 
-const FIRST = "redwork 3\nstep 25\ncolor 5\nline 0 0 300 0 300 200 0 200 0 0\nline 0 0 150 -120 300 0\n";
+// What can be chosen beside a refusal: of each its name and the options of the reading, or a field for it.
+const REMEDIES = {
+    "svg.clipped": [["release", { isReleased: true }]], "svg.selector": [["plain", { isPlain: true }]], "svg.sheet": [["plain", { isPlain: true }]],
+    "svg.fill": [["background", { skip: ["svg.fill"] }], ["outlines", { outlines: true }]], "svg.farAway": [["centre", { isCentred: true }]],
+    "svg.points": ["width"], "svg.manyPoints": ["width"], "svg.tooWide": ["width"], "svg.manySteps": ["step", "width"],
+    "svg.nothing": [["outlines", { outlines: true }]],
+};
 
-export function openView({ open, examples }) {
-    const said = make("p", { class: "said", role: "status" }), card = make("div");
+// Of a list so many things are shown.
+const LISTED = 100;
 
-    const openSvg = (name, source) => {
-        try {
-            state.svg = { base: baseOf(name), root: parseSvg(source), options: {} };
-            readSvg(true);
-        } catch (why) {
-            if (!(why instanceof Refused)) throw why;
-            refuse(`${name}: ${why.message}`);
-        }
-    };
+// A picture of the page's own, with what it shows.
+function shown(key) {
+    const image = make("img", { alt: text(key) }), paint = painter(bytes => {
+        URL.revokeObjectURL(image.src);
+        image.src = bytes ? URL.createObjectURL(new Blob([bytes], { type: "image/svg+xml" })) : "";
+        image.hidden = !bytes;
+    });
+    return { element: make("figure", {}, image, make("figcaption", {}, text(key))), paint };
+}
 
-    // Reads the SVG file again, with the size and the threads that are chosen, and opens its drawing or adds it as a step.
-    const readSvg = isNew => {
-        const { base, root, options } = state.svg, made = drawingOf(root, options);
-        showSvg(made);
-        if (made.refused) return;
-        if (isNew || state.svg.isOpen !== true) openDrawing(base, made.text, `${base}.svg`);
-        else addStep(made.text, text("svg.again", { name: `${base}.svg` }));
-        state.svg.isOpen = true;
-    };
-    const change = options => {
-        Object.assign(state.svg.options, options);
-        readSvg(false);
-    };
+export function openView() {
+    const [said, card, offered] = [make("div", { role: "alert" }), make("div"), make("div")], hoop = hoopControl();
+    const pictures = [shown("open.before"), shown("open.after")];
+    const take = files => openFiles(files, openSvg);
 
-    const threadMenu = ({ colour, thread }) => {
-        const swatch = make("span", { class: "swatch" });
-        const select = menu(THREADS.map(one => [one.number, `${one.number} ${one.name}`]), { "aria-label": text("svg.threadOf", { colour }),
-            change: () => change({ threads: { ...state.svg.options.threads, [colour]: Number(select.value) } }) });
-        select.value = thread.number;
-        swatch.style.background = thread.colour;
-        return make("span", { class: "field" }, swatch, select);
-    };
-    const colourCell = colour => {
-        const swatch = make("span", { class: "swatch" });
-        swatch.style.background = colour;
-        return make("span", { class: "field" }, swatch, make("code", {}, colour));
+    const paintRefusals = painter(refusals => fill(said, refusals.map(line => make("p", { class: "refused" }, line))));
+    const paintOffered = painter(files => fill(offered, files.length > 0 && make("section", { class: "card" }, make("h3", {}, text("open.several")),
+        make("div", { class: "chips" }, files.map(file => make("button", { type: "button", click: () => openOne(file, openSvg) }, file.name))))));
+
+    // A field whose value, in tenths of a millimetre, is an option of the reading.
+    const sizeField = (key, name, tenths, attributes, from = value => value) => {
+        const input = millimetres(tenths, { ...attributes, change: () => readAgain({ [name]: from(tenthsOf(input)) }) });
+        return field(key, input, "mm");
     };
 
-    const showSvg = made => {
-        const { base, options } = state.svg, title = make("h3", {}, text("svg.title", { name: `${base}.svg` }));
-        if (made.refused) {
-            fill(card, make("section", { class: "card" }, title, make("p", { class: "refused", role: "alert" }, text("svg.refused")),
-                make("ul", {}, made.refused.map(line => make("li", {}, line))),
-                made.isSkippable && button("svg.skip", () => change({ skip: true }), { class: "primary" })));
-            return;
-        }
-        const width = millimetres(made.size[0], { min: "1", max: "6000", change: () => change({ width: tenthsOf(width) }) });
-        const step = millimetres(options.step ?? 25, { min: "0.1", max: "204.7", change: () => change({ step: tenthsOf(step) }) });
-        const centre = button("svg.centre", () => change({ isCentred: true }));
-        fill(card, make("section", { class: "card" }, title,
-            make("p", {}, text("svg.size", { width: mm(made.size[0]), height: mm(made.size[1]) })),
-            [...made.notes, made.leftOut].filter(Boolean).map(line => make("p", { class: "hint" }, line)),
-            made.faults.length > 0 && [make("p", {}, text("svg.leftOut")), make("ul", {}, made.faults.map(line => make("li", {}, line)))],
-            make("div", { class: "tools" }, field("svg.width", width, "mm"), field("svg.step", step, "mm"), centre),
-            table(["svg.colour", "svg.thread"], made.colours.map(one => [colourCell(one.colour), threadMenu(one)]),
-                { label: text("svg.threads") }),
-            button("drawing.go", () => open("drawing"), { class: "primary" })));
+    // What is refused of a file, with what can be chosen instead.
+    const refusedCard = ({ file, options, refused, isSkippable }) => {
+        const remedies = [...new Set(refused.flatMap(({ key }) => REMEDIES[key] ?? []))].map(one => {
+            if (one === "step") return sizeField("svg.step", "step", options.step ?? 25, { min: "0.1", max: "204.7" });
+            if (one === "width") return sizeField("svg.width", "width", options.width ?? 1000, { min: "1", max: "6000" });
+            return button(`svg.${one[0]}`, () => readAgain(one[1]));
+        });
+        return make("section", { class: "card" }, make("h3", {}, text("svg.title", { name: file.name })),
+            make("p", { class: "refused", role: "alert" }, text(isSkippable === undefined ? "svg.none" : "svg.refused")),
+            make("ul", {}, refused.slice(0, LISTED).map(({ words }) => make("li", {}, words)), refused.length > LISTED && make("li", {},
+                text("svg.more", { count: refused.length - LISTED }))),
+            isSkippable === false && make("p", {}, text("svg.leavesNothing")),
+            make("div", { class: "tools" }, remedies, isSkippable && button("svg.skip", () => readAgain({ skip: true }))));
     };
 
-    const refuse = line => {
-        said.textContent = line;
-        said.classList.add("refused");
+    // What was read of an SVG file: its size, its colours with their threads, and what was left out.
+    const svgCard = ({ file, options, size, colours, notes, leftOut, faults }) => {
+        const [width, height] = size, menuOf = ({ colour, thread }) => {
+            const select = threadMenu(THREADS, { "aria-label": text("svg.threadOf", { colour }), change: () => readAgain({ threads: {
+                ...options.threads, [colour]: Number(select.value) } }) });
+            select.value = thread.number;
+            return make("span", { class: "field" }, swatch(thread.colour), select);
+        };
+        return drawingCard(file.name, make("div", { class: "tools" },
+            sizeField("svg.width", "width", width, { min: "1", max: "6000" }),
+            sizeField("svg.height", "width", height, { min: "1", max: "6000" }, value => Math.max(1, Math.round(value * width / Math.max(height, 1)))),
+            sizeField("svg.step", "step", options.step ?? 25, { min: "0.1", max: "204.7" }),
+            button("svg.centre", () => readAgain({ isCentred: true }), { disabled: options.isCentred })),
+        [...notes, leftOut].filter(Boolean).map(line => make("p", { class: "hint" }, line)),
+        faults.length > 0 && make("details", {}, make("summary", {}, text("svg.leftOut", { count: faults.length })), make("ul", {},
+            faults.slice(0, LISTED).map(line => make("li", {}, line)))),
+        table(["svg.colour", "svg.thread"], colours.map(one => [make("span", { class: "field" }, swatch(one.colour), make("code", {},
+            one.colour)), menuOf(one)]), { label: text("svg.threads") }));
     };
 
-    // Opens what was chosen. A drawing with a stitch file and a certificate is to be checked.
-    const openFiles = async files => {
-        said.textContent = "";
-        said.classList.remove("refused");
-        fill(card);
-        const found = new Map();
-        for (const file of files) found.set(kindOfFile(file.name), file);
-        if (["drawing", "design", "certificate"].every(kind => found.has(kind))) {
-            state.checked = Object.fromEntries(found);
-            tell("checked");
-            open("check");
-        } else if (found.has("svg")) {
-            openSvg(found.get("svg").name, textOfBytes(found.get("svg").bytes));
-        } else if (found.has("drawing")) {
-            openDrawing(baseOf(found.get("drawing").name), textOfBytes(found.get("drawing").bytes), found.get("drawing").name);
-            open("drawing");
-        } else if (found.has("design")) {
-            state.stitchFile = found.get("design");
-            tell("stitchFile");
-            open("convert");
-        } else {
-            refuse(text("open.certificateAlone"));
-        }
-    };
+    // A drawing that is open, and where one goes on from it.
+    const drawingCard = (name, ...parts) => make("section", { class: "card" }, make("div", { class: "title" }, make("h2", {}, text("open.isOpen",
+        { name })), make("div", { class: "onward" }, button("drawing.go", () => open("drawing")), button("ready.go", makeReady,
+        { class: "primary" }))), parts);
+    const paintCard = painter((refused, svg, name) => fill(card, refused ? refusedCard(refused) : svg ? svgCard(svg) : name ? drawingCard(name)
+        : null));
+
+    const advice = make("div");
+    const paintAdvice = painter(size => fill(advice, hoopAdvice(size, width => makeWide(size, width))));
 
     const chosen = make("input", { type: "file", multiple: true, accept: ".rw,.svg,.dst,.exp,.pec,.pes,.lst,.cert,.txt",
         change: async () => {
-            await openFiles(await Promise.all([...chosen.files].map(readFile)));
+            await take([...chosen.files]);
             chosen.value = "";
         } });
     const count = make("input", { type: "number", min: "1", max: "999999", value: "75" });
-    const openSample = async () => {
-        const made = await sample(count.value);
-        if (!made.isDone) return refuse(made.err.trim());
-        openDrawing(`sample-${count.value}`, made.text, `sample ${count.value}`);
-        return open("drawing");
-    };
-    const element = make("div", {}, make("h2", {}, text("open.title")), make("p", {}, text("open.lead")),
+    const intro = make("div", { class: "intro" }, make("div", {}, make("h2", {}, text("open.title")), make("p", {}, text("open.lead")),
+        make("p", {}, text("open.machines"))), make("div", { class: "figures" }, pictures.map(({ element }) => element)));
+    const element = make("div", {}, intro, make("div", { class: "tools" }, hoop.element, make("span", { class: "hint" }, text("hoop.first"))),
         chooser("open.drop", chosen, make("span", {}, text("open.kinds"))),
-        said, card, make("h3", {}, text("open.examples")), make("p", { class: "hint" }, text("open.examplesHint")),
+        said, offered, advice, card, make("h3", {}, text("open.examples")), make("p", { class: "hint" }, text("open.examplesHint")),
         make("div", { class: "chips" }, Object.keys(examples).map(name => make("button", { type: "button",
-            click: () => openFiles([{ name, bytes: bytesOfText(examples[name]) }]) }, name))),
+            click: () => openOne({ name, bytes: bytesOfText(examples[name]) }, openSvg) }, name))),
         make("h3", {}, text("open.begin")),
-        make("div", { class: "tools" }, button("open.new", () => {
-            openDrawing("drawing", FIRST, text("open.new"));
-            open("drawing");
-        }), make("div", { class: "group" }, field("open.number", count), button("open.sample", openSample))));
-    return { element, shown: () => {}, openFiles };
+        make("div", { class: "tools" }, button("open.new", openNew), make("div", { class: "group" }, field("open.number", count),
+            button("open.sample", () => openSample(count.value)))));
+    const show = () => {
+        const step = drawn(), { svg } = step ?? {}, first = known("first");
+        hoop.show();
+        intro.hidden = Boolean(step || state.refusedSvg);
+        if (first) [first.before, first.after].forEach((bytes, k) => pictures[k].paint(bytes));
+        paintRefusals(state.refusals);
+        paintOffered(state.offered);
+        paintCard(state.refusedSvg, svg, step?.base);
+        paintAdvice(state.refusedSvg ? null : step?.isOpening && svg ? svg.size : null, state.hoop);
+    };
+    return { element, wants: () => drawn() ? [] : ["first"], show };
 }
