@@ -319,9 +319,9 @@ def test_places(page):
           page.says("#view-drawing details:not(.more) summary")[-3:])
     equal("no ring", 0, len(page.shown(".drawn .ring")))
     page.js("for (const one of document.querySelectorAll('#view-drawing details')) one.open = true;")
-    page.shown("#view-drawing details ol button")[0].click()
+    page.until(lambda: page.shown("#view-drawing details ol button"))[0].click()
     equal("one ring", 1, len(page.shown(".drawn .ring")))
-    equal("the hint", True, page.says("#view-drawing .hint")[0].startswith("Lines nearly meet"))
+    equal("the hint", True, any(line.startswith("Lines nearly meet") for line in page.says("#view-drawing .hint")))
     page.click("Snap")
     page.settle()
     equal("the next hint", False, any(line.startswith("Lines nearly meet") for line in page.says("#view-drawing .hint")))
@@ -330,7 +330,9 @@ def test_places(page):
     if native("stitch_drawing", ["snap", 2, "a.rw", "b.rw"], {"a.rw": page.typed().encode()})[0] == 1:
         equal("no hint that is refused", [], [line for line in page.says("#view-drawing .hint") if "Snap" in line or "nearly meet" in line])
     page.drop({"twice.rw": b"redwork 2\ncolor 5\nline 0 0 50 0 100 0 150 0\nline 0 0 50 0 100 0 150 0\n"})
-    equal("repeated lines", 1, page.js("return document.querySelectorAll('#view-drawing details ol li').length"))
+    page.js("for (const one of document.querySelectorAll('#view-drawing details:not(.more)')) one.open = true;")
+    page.until(lambda: page.shown("#view-drawing details ol li"))
+    equal("repeated lines", 1, len(page.shown("#view-drawing details ol li")))
 
 
 def test_points(page):
@@ -363,7 +365,7 @@ def test_svg_remedies(page):
     """What a refusal of an SVG file recommends is beside it."""
     clip = '<clipPath id="c"><rect width="20" height="20"/></clipPath><path clip-path="url(#c)" d="M1 1h50v9" fill="none" stroke="red"/>'
     ground = '<rect width="100" height="100" fill="yellow"/>' + LINE
-    many = "".join(f'<path d="M{k} 0c0 30 9 60 0 90" fill="none" stroke="red"/>' for k in range(9)) * 100
+    many = "".join(f'<path d="M{k * 0.8} 0c0 30 9 60 0 90" fill="none" stroke="red"/>' for k in range(120))
     for name, inside, remedy in (("clip", clip, "Release the clips, and sew all of their lines"),
                                  ("background", ground, "Leave filled shapes out, as a background"),
                                  ("outlines", '<rect width="50" height="40" fill="blue"/>', "Sew the outlines of shapes without a stroke"),
@@ -384,7 +386,7 @@ def test_svg_remedies(page):
     page.drop({"many.svg": (SVG % many).replace("100mm", "900mm").encode()})
     if not page.says("#view-open .refused"):
         wrong("too many points", "a refusal", page.says("#view-open h2"))
-    page.set("Width", 20)
+    page.set("Width", 200)
     equal("with a smaller width", "Open: many.svg", " ".join(page.says("#view-open h2")[-1:]))
 
 

@@ -4,6 +4,9 @@ import { fitOf } from "./hoop.js";
 import { text } from "./texts.js";
 import { threadOf } from "./threads.js";
 
+// So many pieces have their number in the picture.
+const NUMBERED = 200;
+
 // A mark at a point, whose parts count units from it. It grows less than the picture does.
 function mark([x, y], unit, ...parts) {
     return drawn("g", { transform: `translate(${x} ${y}) scale(${unit})` }, drawn("g", { class: "mark" }, parts));
@@ -15,12 +18,17 @@ function number(count) {
         "font-size": 12 }, String(count)));
 }
 
+// Dots at points: one path of lines without length, as wide as the class says at any size of the picture.
+function dots(points, kind) {
+    return points.length > 0 && drawn("path", { class: `dots ${kind}`, d: points.map(([x, y]) => `M${x} ${y}h0`).join("") });
+}
+
 // The parts of a block: its lines, junctions, starts and ends.
 function blockParts(block, unit) {
-    const { colour } = threadOf(block.thread);
+    const { colour } = threadOf(block.thread), odd = block.junctions.filter(([, , isOdd]) => isOdd);
     return [
         drawn("path", { class: "line", d: block.path, stroke: colour }),
-        block.junctions.map(([x, y, isOdd]) => mark([x, y], unit, drawn("circle", isOdd ? { class: "odd", r: 4 } : { class: "even", r: 2.5 }))),
+        dots(block.junctions.filter(([, , isOdd]) => !isOdd), "even"), dots(odd, "edge"), dots(odd, "odd"),
         block.starts.map(point => mark(point, unit, drawn("path", { class: "start", d: "M0 0L-11 -7V7Z" }))),
         block.ends.map(point => mark(point, unit, drawn("path", { class: "end", d: "M0 -5h10v10h-10Z" }))),
     ];
@@ -40,7 +48,7 @@ export function drawingPicture({ blocks, begins, extent }, hoop) {
     const [left, top, right, low] = outer, size = Math.max(right - left, low - top, 10), unit = size / 480, edge = 26 * unit;
     const marks = drawn("g", {}), svg = drawn("svg", { class: "drawn", role: "img", "aria-label": text("drawing.picture",
         { pieces: begins.length }), viewBox: `${left - edge} ${top - edge} ${right - left + 2 * edge} ${low - top + 2 * edge}` },
-    frame && drawn("rect", frame), blocks.map(block => blockParts(block, unit)), begins.map((point, k) => mark(point, unit, number(k + 1))), marks);
+    frame && drawn("rect", frame), blocks.map(block => blockParts(block, unit)), begins.slice(0, NUMBERED).map((point, k) => mark(point, unit, number(k + 1))), marks);
     return { svg, marks, unit };
 }
 

@@ -107,11 +107,23 @@ export function menu(options, attributes = {}) {
     return select;
 }
 
+// Something that is made when it is opened, below its title.
+export function folded(title, content) {
+    const element = make("details", { toggle: () => {
+        if (element.open && element.childElementCount === 1) element.append(content());
+    } }, make("summary", {}, title));
+    return element;
+}
+
+// So many rows of a table are shown.
+const ROWS = 400;
+
 // A table: the keys of its heads, and rows of texts and elements. The first column is text, the others are numbers.
 export function table(heads, rows, attributes = {}) {
     return make("div", { class: "wide", tabindex: "0", role: "region", "aria-label": attributes.label },
         make("table", {}, make("thead", {}, make("tr", {}, heads.map(key => make("th", { scope: "col" }, text(key))))),
-            make("tbody", {}, rows.map(row => make("tr", {}, row.map(cell => make("td", {}, cell)))))));
+            make("tbody", {}, rows.slice(0, ROWS).map(row => make("tr", {}, row.map(cell => make("td", {}, cell))))),
+            rows.length > ROWS && make("caption", {}, text("table.more", { count: ROWS, all: rows.length }))));
 }
 
 // Moves what a scrolled element shows so that one of those inside is in its middle; the page stays where it is.

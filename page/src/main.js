@@ -21,7 +21,8 @@ const part = id => document.getElementById(id).textContent;
 
 // The module, which stands in the page packed by gzip as base64.
 async function moduleOf(base64) {
-    const packed = Uint8Array.from(atob(base64.trim()), byte => byte.charCodeAt(0));
+    const letters = atob(base64.trim()), packed = new Uint8Array(letters.length);
+    for (let k = 0; k < packed.length; k++) packed[k] = letters.charCodeAt(k);
     const stream = new Blob([packed]).stream().pipeThrough(new DecompressionStream("gzip"));
     return WebAssembly.compile(await new Response(stream).arrayBuffer());
 }

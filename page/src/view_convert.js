@@ -50,8 +50,8 @@ export function convertView() {
         const { shown: lines, looked } = found, label = /^\[(.*)\]$/.exec(valueOf(lines, "label") ?? "")?.[1];
         fill(report, make("ul", { class: "plain" }, label && make("li", {}, text("convert.label", { label })), make("li", {}, text("convert.extent",
             Object.fromEntries((valueOf(lines, "extent") ?? "0 0 0 0").split(" ").map((part, k) => [["left", "top", "right", "low"][k], mm(part)]))))),
-        valueOf(lines, "ended") === "no" && make("p", { class: "refused" }, text("convert.cutOff")), looked && [make("h4", {}, text("design.threads")),
-            threadsOf(looked), make("h4", {}, text("finish.look")), placesOf(looked)]);
+        valueOf(lines, "ended") === "no" && make("p", { class: "refused" }, text("convert.cutOff")), looked && [make("h3", {}, text("design.threads")),
+            threadsOf(looked), make("h3", {}, text("finish.look")), placesOf(looked)]);
     });
     const paintLosses = painter((from, to) => {
         const lost = lossesOf(from, to);

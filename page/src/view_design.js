@@ -3,7 +3,7 @@
 import { act, goTo, open, save } from "./actions.js";
 import { hasProgram, task } from "./commands.js";
 import { placesOf, threadsOf } from "./design_report.js";
-import { button, choice, field, fill, head, make, menu, mm, painter, say, setValue, swatch, table, threadMenu } from "./elements.js";
+import { button, choice, field, fill, folded, head, make, menu, mm, painter, say, setValue, swatch, table, threadMenu } from "./elements.js";
 import { FORMATS, lengthText } from "./files.js";
 import { hoopAdvice, hoopControl } from "./hoop.js";
 import { stepNamed } from "./ready.js";
@@ -45,7 +45,7 @@ export function designView() {
             : made.refused ? make("p", { class: "refused" }, made.refused)
                 : [make("p", { class: "count" }, make("strong", {}, String(sums.penetrations)), " ", text("route.needles"), " ",
                     text("route.inPieces", { pieces: sums.pieces })), make("p", { class: "hint" }, text(`route.${way}.means`)),
-                choice("route.keep", keep), make("details", {}, make("summary", {}, text("route.report")), table(["route.block", "route.piece",
+                choice("route.keep", keep), folded(text("route.report"), () => table(["route.block", "route.piece",
                     "route.lines", "route.cost", ...isRoute ? ["route.retraced"] : [], "route.penetrations"], rows.map(one => [one.block, one.piece,
                     one.lines, one.cost, ...isRoute ? [one.retraced] : [], one.penetrations]), { label: text(`route.${way}`) }))]);
     }))));

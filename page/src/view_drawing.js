@@ -2,7 +2,7 @@
 import { act, goTo, makeReady, open, type } from "./actions.js";
 import { stepOf } from "./drawing.js";
 import { drawingPicture, nearestPoint, rings } from "./drawing_picture.js";
-import { button, centreIn, field, fill, head, make, menu, millimetres, mm, painter, say, setValue, table, tenthsOf } from "./elements.js";
+import { button, centreIn, field, fill, folded, head, make, menu, millimetres, mm, painter, say, setValue, table, tenthsOf } from "./elements.js";
 import { hoopAdvice, hoopControl } from "./hoop.js";
 import { stepNamed } from "./ready.js";
 import { change, drawn, known, state } from "./state.js";
@@ -54,11 +54,11 @@ export function drawingView() {
     });
     const paintPieces = painter(({ pieces: all, sums }) => fill(pieces, make("p", {}, text("drawing.sums", { pieces: sums.pieces,
         thread: mm(sums.thread), travel: mm(sums.travel) })),
-    make("details", {}, make("summary", {}, text("look.pieces")), table(["look.piece", "look.block", "look.lines", "look.odd", "look.stitches",
+    folded(text("look.pieces"), () => table(["look.piece", "look.block", "look.lines", "look.odd", "look.stitches",
         "look.shortest", "look.longest", "look.short", "look.thread", "look.travel"], all.map(one => [one.piece, one.block, one.lines, one.odd,
         one.stitches, mm(one.shortest), mm(one.longest), one.short, mm(one.thread), mm(one.travel)]), { label: text("look.table") }))));
-    const paintPlaces = painter(({ kinds }) => fill(places, kinds.length ? kinds.map(({ what, all, items }) => make("details", {},
-        make("summary", {}, text(`look.kind.${what}`, { count: all })), make("ol", {}, items.map(place => {
+    const paintPlaces = painter(({ kinds }) => fill(places, kinds.length ? kinds.map(({ what, all, items }) => folded(
+        text(`look.kind.${what}`, { count: all }), () => make("ol", {}, items.map(place => {
             const one = make("button", { type: "button", "aria-pressed": "false", click: () => choosePlace(one, place) }, placeText(place));
             return make("li", {}, one);
         })))) : make("p", {}, text("look.noPlace"))));
