@@ -16,9 +16,12 @@ function extentOf(points) {
     return [least(points, 0), least(points, 1), most(points, 0), most(points, 1)];
 }
 
-// A map of points, a b c d e f: x becomes a x + c y + e, and y becomes b x + d y + f. Points of a shape are px, of which 96 are an inch.
+// Lengths of a px, of which 96 are an inch, in tenths of a millimetre.
+const PX = 254 / 96;
+
+// A point of a shape after its map a b c d e f to px: x becomes a x + c y + e, and y becomes b x + d y + f.
 function placed([a, b, c, d, e, f], [x, y]) {
-    const point = [a * x + c * y + e, b * x + d * y + f].map(part => part * 254 / 96);
+    const point = [a * x + c * y + e, b * x + d * y + f].map(part => PX * part);
     if (!(Math.abs(point[0]) + Math.abs(point[1]) < 1e9)) throw new Refused("svg.large");
     return point;
 }
