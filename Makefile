@@ -17,7 +17,7 @@ MAINTAINER = Kaouzbrel maintainers <maintainers@users.noreply.kaouzbrel.example>
 
 # The extension of Inkscape: its files, the folder $(1) that they are copied to, and the folders $(2) of the programs for it.
 # Inkscape reads extensions in its own data folder and in that of the user.
-EXTENSION = $(wildcard inkscape/*.inx inkscape/*.py) examples/svg_drawing.py examples/svg_strokes.py examples/svg_style.py
+EXTENSION = $(wildcard inkscape/*.inx inkscape/*.py) $(filter-out %_svgelements.py,$(wildcard examples/svg_*.py))
 extend = install -d "$(1)" && install -m 644 $(EXTENSION) "$(1)" && printf '%s\n' $(2) > "$(1)/folders.txt"
 DIR ?= $(shell inkscape --user-data-directory 2> /dev/null)/extensions
 

@@ -21,6 +21,19 @@ import svg_drawing  # noqa: E402
 NAMES = ["bird", "name", "wreath", "quilt", "snail"]
 SVG, INKSCAPE = "{http://www.w3.org/2000/svg}", "{http://www.inkscape.org/namespaces/inkscape}"
 HEAD = '<svg xmlns="http://www.w3.org/2000/svg" width="100mm" height="100mm" viewBox="0 0 50 50" stroke="black" fill="none">'
+TEXT = HEAD + '<text id="t" x="10" y="20">a</text></svg>'
+SENTENCE = "text 't': convert it to a path (Path > Object to Path), or draw its letters as lines\n"
+LINE = HEAD + '<path id="p" d="M1 1h9"/></svg>'
+BOTH = LINE.replace("</svg>", TEXT[len(HEAD):])
+MADE_NONE = "Stitch made no design of the drawing:\n"
+ILLUSTRATORS = '''<?xml version="1.0" encoding="utf-8"?><!-- Generator: Adobe Illustrator 24.0.0, SVG Export Plug-In -->
+<!DOCTYPE svg PUBLIC "-//W3C//DTD SVG 1.1//EN" "http://www.w3.org/Graphics/SVG/1.1/DTD/svg11.dtd" [
+<!ENTITY ns_ai "http://ns.adobe.com/AdobeIllustrator/10.0/">]>
+<svg xmlns:i="&ns_ai;" xmlns="http://www.w3.org/2000/svg" x="0px" y="0px" width="200px" height="200px" viewBox="0 0 200 200">
+<style type="text/css">.st0{fill:none;stroke:#FF0000;}</style>
+<switch><foreignObject requiredExtensions="&ns_ai;" width="1" height="1"></foreignObject>
+<g i:extraneous="self"><path class="st0" d="M0,0H72"/></g></switch></svg>
+'''
 SECONDS = 300
 # The T's short line ends 0.1 mm below the long one.
 T = HEAD + '<path id="bar" d="M0 0h40"/><path id="stem" d="M20 .05v20"/></svg>'
@@ -68,8 +81,10 @@ def extension(command, document, *options, **environment):
 
 def same_points(name):
     """Both libraries give the same drawing."""
-    root = ElementTree.parse(os.path.join(HOME, "examples", name)).getroot()
-    one, other = (svg_drawing.drawing(root, library).text for library in (svg_by_svgelements, svg_by_inkex))
+    with open(os.path.join(HOME, "examples", name), encoding="utf-8") as file:
+        text = file.read()
+    one, other = (svg_drawing.drawing(ElementTree.fromstring(text.encode()), text, library).text
+                  for library in (svg_by_svgelements, svg_by_inkex))
     expect(f"{name} by inkex", one, other)
 
 
@@ -115,11 +130,7 @@ def test_saved():
 
 
 def test_refusals():
-    """What can't be saved or drawn is refused with its object, and what is left out or lost is told."""
-    TEXT = HEAD + '<text id="t" x="10" y="20">a</text></svg>'
-    SENTENCE = "text 't': convert it to a path (Path > Object to Path), or draw its letters as lines\n"
-    LINE = HEAD + '<path id="p" d="M1 1h9"/></svg>'
-    BOTH = LINE.replace("</svg>", TEXT[len(HEAD):])
+    """What can't be saved or drawn is refused with its object, and what is left out or lost is reported."""
     for wanted, command, document, options, environment in (
             (SENTENCE, "save", TEXT, (), {}),
             (SENTENCE, "look", BOTH, (), {}),
@@ -133,11 +144,12 @@ def test_refusals():
             ("cannot write /none/document.pes.rw: No such file or directory: name another folder in the dialog\n", "save", LINE,
              ("--form=pes", "--folder=/none"), {})):
         status, out, err = extension(command, document, *options, **environment)
-        expect(wanted, (True, "", wanted), (status != 0, out, err))
-    with open(os.path.join(FOLDER, "text.svg"), "w", encoding="utf-8") as out:
-        out.write(TEXT)
-    run("inkscape", "--export-type=pes", "text.svg")
-    expect("the design of a text", b"", read("text.pes"))
+        reason = os.path.join(FOLDER, "document.lst.txt")
+        kept = f"This is in {reason} too.\n" if command == "save" and not options[1:] else ""
+        expect(wanted, (True, "", wanted + kept), (status != 0, out, err))
+        expect("the kept reason", MADE_NONE + wanted if kept else "", read("document.lst.txt").decode())
+        if kept:
+            os.remove(reason)
     expect("what is left out", (0, "left out: " + SENTENCE), extension("save", BOTH, "--skip=true")[::2])
     expect("a document without a folder",
            (0, "No certificate was kept, as the document has no folder yet: save it, or name one in the dialog.\n"),
@@ -146,6 +158,33 @@ def test_refusals():
                             ("", "x: x.rw: more than 1024 lines")):
         text = "redwork 2\ncolor 1\nline 0 0 1 1\n# b\nline 0 0 1 1\n"
         expect(message, wanted, redwork_programs.object_of(message, text, ["a", "b"]))
+
+
+def test_reasons():
+    """An Inkscape that is started to export writes the reason. The next design takes its file away, and no other file."""
+    with open(os.path.join(FOLDER, "text.svg"), "w", encoding="utf-8") as out:
+        out.write(TEXT)
+    expect("the status of a refusal", 0, run("inkscape", "--export-type=pes", "text.svg")[0])
+    for name in ("text.pes", "text.pes.txt"):
+        expect(name, MADE_NONE + SENTENCE, read(name).decode())
+    for before, after in ((MADE_NONE.encode() + b"old\n", b""), (b"my notes\n", b"my notes\n")):
+        with open(os.path.join(FOLDER, "document.lst.txt"), "wb") as out:
+            out.write(before)
+        expect("a design after a refusal", 0, extension("save", LINE)[0])
+        expect("the file of the reason", after, read("document.lst.txt"))
+    extension("save", TEXT)
+    expect("a file of the same name", b"my notes\n", read("document.lst.txt"))
+    os.remove(os.path.join(FOLDER, "document.lst.txt"))
+
+
+def test_illustrators():
+    """A file as Illustrator writes it, whose entities Inkscape writes into the name of a namespace."""
+    with open(os.path.join(FOLDER, "ai.svg"), "w", encoding="utf-8") as out:
+        out.write(ILLUSTRATORS)
+    expect("Illustrator's file", 0, run("inkscape", "--export-type=pes", "ai.svg")[0])
+    run(sys.executable, os.path.join(HOME, "examples", "from_svg.py"), "ai.svg", "wanted.rw")
+    lines = [[line for line in read(name).splitlines() if line[:4] == b"line"] for name in ("wanted.rw", "ai.pes.rw")]
+    expect("Illustrator's lines", [[b"line 0 0 254 0"], 1], [lines[0], len(lines[1])])
 
 
 def test_look():
@@ -191,7 +230,7 @@ def test_in_inkscape():
     expect("layers in Inkscape", [1, 1], [len(shown.get(name, [])) for name in ("Redwork look", "Redwork route")])
 
 
-for test in (test_drawings, test_saved, test_refusals, test_look, test_route, test_in_inkscape):
+for test in (test_drawings, test_saved, test_refusals, test_reasons, test_illustrators, test_look, test_route, test_in_inkscape):
     if not WORDS or any(word in test.__name__ for word in WORDS):
         test()
 print(f"inkscape: {failed} failed")

@@ -150,9 +150,15 @@ NOTE = "size: not given, so a unit is a px of 1/96 inch; --width=N gives another
 reports([NOTE, "size 3 3 middle 1 1"], '<path stroke="black" d="M0 0 1 1"/>', 'width="100%" viewBox="0 0 5 5">')
 
 # colours: one block for all spellings, in the order of their first lines, and the nearest thread
-reports(["#ff0000 thread 28 Vermilion", "#000000 thread 20 Black", "#a01818 thread 5 Red", "size 20 60 middle 10 30"],
+reports(["#ff0000 thread 5 Red", "#000000 thread 20 Black", "#a01818 thread 5 Red", "size 20 60 middle 10 30"],
         "".join(f'<path stroke="{colour}" d="M0 {k}h2"/>' for k, colour in enumerate(
             "#f00 black rgb(255,0,0) red #a01818 rgb(100%,0%,0%) hsl(0,100%,50%)".split())))
+draws(["color 5", "0 0 20 0", "0 20 20 20", "color 20", "0 10 20 10"],
+      '<path stroke="#f00" d="M0 0h2"/><path d="M0 1h2"/><path stroke="rgb(255 0 0 / 1)" d="M0 2h2"/>')
+for number, thread in enumerate(svg_drawing.THREADS, 1):
+    if svg_drawing.thread_of(bytes.fromhex(thread[:6]))[0] != number:
+        wrong(thread, number, svg_drawing.thread_of(bytes.fromhex(thread[:6])))
+
 # hues go from red by yellow to green and blue: by the definition of CSS, with 255 for 1
 for colour, wanted in (("hsl(120,100%,50%)", (0, 255, 0, 255)), ("hsl(240deg 100% 50% / 50%)", (0, 0, 255, 128)),
                        ("hsl(60,100%,30%)", (153, 153, 0, 255)), ("hsl(-60,100%,30%)", (153, 0, 153, 255)),
@@ -164,6 +170,12 @@ draws(["color 28", "0 0 20 0", "0 20 20 20", "color 20", "0 10 20 10"],
 for number, thread in enumerate(svg_drawing.THREADS, 1):
     if svg_drawing.thread_of(bytes.fromhex(thread[:6]))[0] != number:
         wrong(thread, number, svg_drawing.thread_of(bytes.fromhex(thread[:6])))
+
+# the colours that SVG and the palette have by one name; beside them the nearest in a space of seen colour
+for name, number in (
+        ("black", 20), ("white", 29), ("red", 5), ("blue", 2), ("yellow", 13), ("orange", 12), ("silver", 16), ("gray", 39),
+        ("magenta", 7), ("purple", 55), ("violet", 30), ("beige", 47), ("khaki", 35), ("lavender", 45), ("#fe0000", 28), ("#010101", 20)):
+    draws([f"color {number}"][:number != 20] + ["0 0 10 0"], f'<path stroke="{name}" d="M0 0h1"/>')
 
 # what is left out, and counted
 LEFT = "".join((
@@ -208,6 +220,60 @@ reports(LIST, P + BAD, status=1)
 reports(LIST[:1], '<text id="t">a</text>', options=["--skip"], status=1)
 reports(["left out: " + line for line in LIST] + ["size 10 0 middle 5 0"], P + BAD, options=["--skip"])
 
+# a clip that is a rectangle around all that it clips is passed over; another is refused, with all that is in it
+CLIP = '<clipPath id="c"><rect x="1" y="1" width="8" height="4"/></clipPath>'
+CUT = "it is clipped or masked: release that (Object > Clip or Mask > Release)"
+LINE = '<path clip-path="url(#c)" d="M1 1 9 5"/>'
+for inside in (
+        CLIP + LINE, CLIP + '<g style="clip-path:url(#c)"><path d="M1 1 9 5"/></g>',
+        # the clip has the units of what it clips, and may be written as a path, to its start or to its last corner
+        '<clipPath id="c"><path d="M0 0H4V2H0z"/></clipPath>'
+        '<g clip-path="url(#c)" transform="translate(1,1) scale(2)"><path d="M0 0 4 2"/></g>',
+        '<clipPath id="c"><path d="M1 1 9 1 9 5 1 5"/></clipPath>' + LINE,
+        '<clipPath id="c" transform="translate(1,1)"><rect width="8" height="4"/></clipPath>' + LINE,
+        '<clipPath id="c"><rect x="1" y="-9" width="4" height="8" transform="rotate(90)"/></clipPath>' + LINE):
+    draws(["10 10 90 50"], inside)
+# a curve is within if it is, whatever its handles are: this one reaches y = 8
+if made(page(CLIP.replace('"4"', '"7"') + '<path clip-path="url(#c)" d="M1 5C1 9 9 9 9 5"/>'))[0] != 0:
+    wrong("a curve within its clip", 0, 1)
+for inside in (
+        '<path d="M1 1 9.1 5"/>', '<path d="M1 1 9 5.1"/>', '<path d="M0.9 1 9 5"/>', '<path d="M1 0.9 9 5"/>',
+        '<path d="M1 1C9 9 9 9 9 5"/>'):
+    reports([f"g 'g': {CUT}"], CLIP + f'<g id="g" clip-path="url(#c)"><path d="M2 2h1"/>{inside}</g>', status=1)
+    draws(["50 60 60 60"], CLIP + f'<g id="g" clip-path="url(#c)"><path d="M2 2h1"/>{inside}</g><path d="M5 6h1"/>',
+          options=["--skip"])
+draws(["50 60 60 60"], CLIP + '<path d="M5 6h1"/><path clip-path="url(#c)" display="none" d="M0 0h99"/>')
+for clip in ("<circle r='50'/>", "<rect width='9' height='9'/><rect width='9' height='9'/>", "<path d='M0 0H99V99'/>",
+             "<path d='M0 0H99V99H1z'/>", "<rect width='99' height='99' rx='1'/>", "<text>a</text>", ""):
+    reports([f"path 'p': {CUT}"], f"<clipPath id='c'>{clip}</clipPath>" + '<path id="p" clip-path="url(#c)" d="M1 1h1"/>',
+            status=1)
+reports([f"path 'p': {CUT}"], '<clipPath id="c" clipPathUnits="objectBoundingBox"><rect width="9" height="9"/></clipPath>'
+        '<path id="p" clip-path="url(#c)" d="M1 1h1"/>', status=1)
+
+# a rectangle around the page without a stroke is passed over, white or not
+for around in ('<rect width="100" height="100" fill="white"', '<rect width="100%" height="100%" fill="#345"',
+               '<rect x="-5" y="-5" width="110" height="120" fill="white"', '<path d="M100 0H0V100H100z" fill="red"'):
+    reports(["left out: 1 as large as the page, without a stroke", "size 10 0 middle 15 10"],
+            around + ' stroke="none"/><path d="M1 1h1"/>')
+for sides in ('width="99" height="100"', 'width="100" height="99"', 'x="1" width="100" height="100"', 'y="1" width="100" height="100"'):
+    reports(["rect 'r': it has a fill and no stroke: give it a stroke (Object > Fill and Stroke), or delete it"],
+            f'<rect id="r" {sides} fill="white" stroke="none"/>', status=1)
+
+# Illustrator's px is 1/72 inch, where the file says that it wrote it and gives no other unit: 72 px are 25.4 mm
+WROTE, NOTE = "<!-- Generator: Adobe Illustrator 24.0 -->", "size: Illustrator wrote the file, so a px is 1/72 inch; --width=N gives another"
+ILLUSTRATORS = (f'<?xml version="1.0"?>{WROTE}<!DOCTYPE svg [<!ENTITY ns_ai "http://ns.adobe.com/AdobeIllustrator/10.0/">]>'
+                '<svg xmlns="http://www.w3.org/2000/svg" xmlns:i="&ns_ai;" ')
+for size, long in (('width="144px" height="144px"', 254), ("", 254), ('width="100%"', 254), ('width="144mm" height="144mm"', 720)):
+    for head in (ILLUSTRATORS, ILLUSTRATORS.replace(WROTE, ""), ILLUSTRATORS.replace("AdobeIllustrator", "")):
+        _, found, report, _ = made(f'{head}{size} viewBox="0 0 144 144"><path stroke="black" d="M0 0h72"/></svg>')
+        if found[1:] != [f"line 0 0 {long} 0"] or (NOTE in report) != (long == 254):
+            wrong(size, long, (found, report))
+draws(["0 0 191 0"], "<!-- Adobe Illustrator --><path d='M0 0h72'/>", head='stroke="black" viewBox="0 0 9 9">')
+
+# of what potrace wrote, the areas are outlines
+reports(["path 'p': it is the outline of a traced area: trace its centre line (Path > Trace Bitmap, Centerline), or delete it"],
+        '<metadata>Created by potrace 1.16</metadata><path id="p" fill="black" stroke="none" d="M0 0h1v1z"/>', status=1)
+
 # faults of a whole file, each in one line
 for wanted, document in (
         ("not XML: no element found: line 1, column 0", ""),
@@ -239,10 +305,12 @@ for wanted, document in (
          page('<path d="M3000 0h1"/>', PAGE)),
         ("the drawing is 60010 tenths of a millimetre large, more than 60000: scale it in the editor, or take --width=N",
          page('<path d="M0 0h6001"/>', PAGE)),
-        ("more than 65536 points: take --apart=1, or divide the drawing",
-         page('<path d="M0 0' + "h1v1h-1v-1" * 17000 + '"/>', PAGE)),
-        ("more than 65536 points: take --apart=1, or divide the drawing",
+        ("more than 65536 points: divide the drawing", page('<path d="M0 0' + "h1v1h-1v-1" * 17000 + '"/>', PAGE)),
+        # 40 curves whose handles are 12,000 mm long on the whole: 40 * (4472.1 + 2828.4 + 4338.2) / 65536 = 7.103
+        ("more than 65536 points: take --apart=7.2 or more, or divide the drawing",
          page('<path d="' + "M0 0C2000 4000 4000 2000 5900 5900" * 40 + '"/>', PAGE)),
+        ("more than 131072 parts of paths: simplify them (Path > Simplify), or divide the drawing",
+         page('<path d="M0 0' + "h1h-1" * 250000 + '"/>', PAGE)),
         ("240000 steps: take a longer STEP, or divide the drawing; a drawing has at most 200000",
          page('<path d="M0 0' + "h1000h-1000" * 300 + '"/>', PAGE)),
         ("1026 lines, counted from meeting to meeting: divide the drawing; a drawing has at most 1024",
@@ -292,10 +360,27 @@ for name in ("house", "fern", "knot"):
         wrong(name, wanted, found)
 
 # arguments
-for words in ("", "a", "a b c", "a b 0", "a b 2048", "a b --within=0.01", "a b --apart=0", "a b --width=0", "a b --width=x",
-              "a b --none", "a b 5 d", "a b --centre=1"):
-    if from_svg.run(words.split())[0] != 2:
-        wrong(words, 2, from_svg.run(words.split()))
+for words, wanted in (
+        ("", "it takes two names: IN.svg and OUT.rw"), ("a", "it takes two names: IN.svg and OUT.rw"),
+        ("a b", "b: the name of a drawing ends in .rw"), ("a b.pes", "b.pes: the name of a drawing ends in .rw"),
+        ("a b.rw c", "c: it is neither a STEP nor an option"), ("a b.rw 0", "--step=0: it isn't from 1 to 2047"),
+        ("a b.rw 2048", "--step=2048: it isn't from 1 to 2047"), ("a b.rw --step=2.5", "--step=2.5: it isn't a whole number"),
+        ("a b.rw --within=0.01", "--within=0.01: it isn't from 0.08 to 10"),
+        ("a b.rw --apart=0", "--apart=0: it isn't from 0.3 to 10"),
+        ("a b.rw --apart", "--apart=: it isn't a number"), ("a b.rw --apart 11", "--apart=11: it isn't from 0.3 to 10"),
+        ("a b.rw --width=0", "--width=0: it isn't from 1 to 60000"),
+        ("a b.rw --width=7m", "--width=7m: it isn't a whole number, or one of mm, cm or in"),
+        ("a b.rw --none", "--none: there is no such option"), ("a b.rw 5 d", "d: it is neither a STEP nor an option"),
+        ("a b.rw --centre=1", "--centre: there is no such option")):
+    status, report = from_svg.run(words.split())
+    if status != 2 or report[0] != f"from_svg.py: {wanted}" or "usage: " not in report[1]:
+        wrong(words, wanted, report)
+for words, wanted in (("--width=80mm", "size 800 800 middle 400 400"), ("--width=8cm", "size 800 800 middle 400 400"),
+                      ("--width 2in", "size 508 508 middle 254 254"), ("--width=80.5mm", "size 805 805 middle 402 402"),
+                      ("--apart 1mm --width=30", "size 30 30 middle 15 15")):
+    reports([wanted], '<path d="M0 0 1 1"/>', options=words.split())
+if [line for line in made(page('<path d="M0 0h1"/>'), "--step=7")[3].splitlines() if line.startswith("step")] != ["step 7"]:
+    wrong("--step=7", "step 7", None)
 
 
 def ends():

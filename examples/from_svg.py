@@ -4,10 +4,10 @@
 usage: from_svg.py IN.svg OUT.rw [STEP] [--within=MM] [--apart=MM] [--width=N] [--centre] [--skip]
 
 Writes a block for each stroke colour, in the order in which they first appear, with the nearest thread of the PEC palette.
-STEP is the longest stitch in tenths of a millimetre, 25 without it. OUT.rw may be - for the standard output.
+STEP, or --step=STEP, is the longest stitch in tenths of a millimetre, 25 without it. OUT.rw may be - for the standard output.
   --within=MM  how far a curve may be from its points and the lines between them: 0.1 without it, 0.08 to 10
   --apart=MM   how far apart the points of a curve may be: 0.5 without it, 0.3 to 10
-  --width=N    makes the drawing N tenths of a millimetre wide; its left and upper edges stay
+  --width=N    makes the drawing N tenths of a millimetre wide, or 80mm, 8cm or 3in; its left and upper edges stay
   --centre     brings the middle of the drawing to 0 0
   --skip       leaves out what can't be sewn, and names it
 Threads, size, middle and what is left out are reported on the standard error.
@@ -29,33 +29,58 @@ except ImportError as why:
 
 # The python3 of Debian, which sees Debian's packages.
 DEBIAN = "/usr/bin/python3"
-# The least and the greatest value of each option.
-RANGES = {"--step": (1, 2047), "--within": (0.08, 10), "--apart": (0.3, 10), "--width": (1, 60000)}
+# The least and the greatest value of each option, and the units in which it may be given, with what they are multiplied by.
+RANGES = {"step": (1, 2047), "within": (0.08, 10), "apart": (0.3, 10), "width": (1, 60000)}
+UNITS = {"step": {"": 1}, "within": {"": 1, "mm": 1}, "apart": {"": 1, "mm": 1},
+         "width": {"": 1, "mm": 10, "cm": 100, "in": 254}}
+
+
+class WrongWord(Exception):
+    """Which of the arguments isn't understood, and why."""
+
+
+def value_of(name, text):
+    """The value of an option: whole numbers for --step and --width, and millimetres."""
+    found, (low, high) = re.fullmatch(r"(\d+(?:\.\d+)?)([a-z]*)", text or ""), RANGES[name]
+    by = UNITS[name].get(found[2]) if found else None
+    is_whole = name in ("step", "width")
+    if by is None or is_whole and by == 1 and "." in text:
+        raise WrongWord(f"--{name}={text or ''}: it isn't a {'whole ' * is_whole}number"
+                        + (name == "width") * ", or one of mm, cm or in")
+    value = float(found[1]) * by
+    if not low <= value <= high:
+        raise WrongWord(f"--{name}={text}: it isn't from {low} to {high}")
+    return round(value) if is_whole else value
 
 
 def options_of(words):
-    """The names of both files and the options, or None."""
-    files, options = [], {}
-    for word in words:
-        name, _, value = word.partition("=")
-        if word in ("--centre", "--skip"):
-            options[word[2:]] = True
-        elif name in RANGES and re.fullmatch(r"\d+" if name == "--width" else r"\d+(\.\d+)?", value):
-            options[name[2:]] = int(value) if name == "--width" else float(value)
-        elif word.startswith("--"):
-            return None
+    """The names of both files and the options. A value may follow its option as the next word."""
+    files, options, words = [], {}, list(words)
+    while words:
+        name, equals, value = words.pop(0).partition("=")
+        if name in ("--centre", "--skip") and not equals:
+            options[name[2:]] = True
+        elif name[:2] == "--" and name[2:] in RANGES:
+            options[name[2:]] = value_of(name[2:], value if equals else words.pop(0) if words else None)
+        elif name[:2] == "--":
+            raise WrongWord(f"{name}: there is no such option")
         else:
-            files.append(word)
-    if len(files) == 3 and re.fullmatch("[0-9]{1,9}", files[2]):
-        options["step"] = int(files.pop())
-    ranged = [(RANGES[name], options[name[2:]]) for name in RANGES if name[2:] in options]
-    return (files, options) if len(files) == 2 and all(low <= at <= high for (low, high), at in ranged) else None
+            files.append(name + equals + value)
+    if files[2:] and files[2].isdigit():
+        options["step"] = value_of("step", files.pop(2))
+    if len(files) != 2:
+        raise WrongWord(f"{files[2]}: it is neither a STEP nor an option" if files[2:] else "it takes two names: IN.svg and OUT.rw")
+    if files[1] != "-" and not files[1].endswith(".rw"):
+        raise WrongWord(f"{files[1]}: the name of a drawing ends in .rw")
+    return files, options
 
 
 def read(name):
-    """The root of a document."""
+    """The root of a document, and its text."""
     try:
-        return ElementTree.parse(name).getroot()
+        with open(name, "rb") as file:
+            data = file.read()
+        return ElementTree.fromstring(data), data.replace(b"\0", b"").decode("latin-1")
     except OSError as why:
         raise Refused(f"cannot read it: {why.strerror or why}") from None
     except (ElementTree.ParseError, ValueError, LookupError) as why:
@@ -77,14 +102,14 @@ def write(name, text):
 
 def run(words):
     """Runs the script, and returns its status and what it reports."""
-    found = options_of(words)
-    if not found:
-        return 2, [__doc__.split("\n\n", 1)[1].rstrip()]
-    (name, out), options = found
+    try:
+        (name, out), options = options_of(words)
+    except WrongWord as why:
+        return 2, [f"from_svg.py: {plain(str(why))}", __doc__.split("\n\n", 1)[1].rstrip()]
     try:
         if out != "-" and os.path.exists(out) and os.path.exists(name) and os.path.samefile(name, out):
             raise Refused("the drawing would replace it: name another file")
-        made = drawing(read(name), library, **options)
+        made = drawing(*read(name), library, **options)
         write(out, made.text)
         return 0, made.report
     except (Refused, TooMuch) as why:

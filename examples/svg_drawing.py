@@ -8,13 +8,13 @@ from collections import Counter
 from itertools import accumulate
 from typing import NamedTuple
 
+from svg_geometry import at_extremes
 from svg_strokes import Reader, plain
 from svg_style import Refused, kind_of
 
 # The greatest distance of a curve from its samples, in tenths of a millimetre.
 SAMPLED = 0.04
 LINES, POINTS, STEPS, REACH, BLOCKS = 1024, 65536, 200000, 30000, 255
-TOO_MANY = f"more than {POINTS} points: take --apart=1, or divide the drawing"
 THREADS = """0e1f7c Prussian Blue,0a55a3 Blue,008777 Teal Green,4b6baf Cornflower Blue,ed171f Red,d15c00 Reddish Brown,
 913697 Magenta,e49acb Light Lilac,915fac Lilac,9ed67d Mint Green,e8a900 Deep Gold,feba35 Orange,ffff00 Yellow,70bc1f Lime Green,
 ba9800 Brass,a8a8a8 Silver,7d6f00 Russet Brown,ffffb3 Cream Brown,4f5556 Pewter,000000 Black,0b3d91 Ultramarine,
@@ -31,36 +31,6 @@ def title_of(root):
     """The title of a document as a label of at most 16 bytes without spaces."""
     title = next((child for child in root if kind_of(child) == "title"), None)
     return plain("".join(title.itertext()) if title is not None else "").replace(" ", "-")[:16].rstrip("-")
-
-
-def cut_at(curve, t):
-    """The two parts of a cubic curve."""
-    a, b, c, d = curve
-    ab, bc, cd = a + t * (b - a), b + t * (c - b), c + t * (d - c)
-    abc, bcd = ab + t * (bc - ab), bc + t * (cd - bc)
-    middle = abc + t * (bcd - abc)
-    return (a, ab, abc, middle), (middle, bcd, cd, d)
-
-
-def turns(p, q, r, s):
-    """Where a cubic polynomial, given by its four Bezier numbers, turns between 0 and 1."""
-    a, b, c = s - 3 * r + 3 * q - p, 2 * (r - 2 * q + p), q - p
-    root = math.sqrt(max(b * b - 4 * a * c, 0))
-    under = -(b + math.copysign(root, b)) / 2
-    return [t for t in ((under / a) if a else 0, (c / under) if under else 0) if 1e-6 < t < 1 - 1e-6]
-
-
-def at_extremes(pieces, wanted=lambda point: True):
-    """The pieces of a line with its curves cut where x or y turns, at the points that are wanted."""
-    made = []
-    for piece in pieces:
-        done, curve = 0.0, piece if len(piece) == 4 else (0, 0, 0, 0)
-        for t in sorted(set(turns(*(p.real for p in curve)) + turns(*(p.imag for p in curve)))):
-            first, rest = cut_at(piece, (t - done) / (1 - done))
-            if wanted(rest[0]):
-                made, piece, done = made + [first], rest, t
-        made.append(piece)
-    return made
 
 
 def rounded(point):
@@ -108,15 +78,24 @@ def curve_points(curve, within, apart):
 
 
 def points_of(pieces, within, apart):
-    """The whole points of a line, no two neighbours alike."""
+    """The whole points of a line, no two neighbours alike: all of them, or more than a drawing has."""
     points = [rounded(pieces[0][0])]
     for piece in pieces:
         for point in curve_points(piece, within, apart) if len(piece) == 4 else [rounded(piece[1])]:
             if point != points[-1]:
                 points.append(point)
         if len(points) > POINTS:
-            raise Refused(TOO_MANY)
+            break
     return points
+
+
+def too_many(pieces, apart):
+    """What is said of lines that have more points than a drawing. It names how far apart the points of curves have to be."""
+    curves = [piece for piece in pieces if len(piece) == 4]
+    left = POINTS - (len(pieces) - len(curves))
+    wanted = math.ceil(sum(abs(b - a) for curve in curves for a, b in zip(curve, curve[1:])) / left) / 10 if left > 0 else 0
+    advice = f"take --apart={wanted:g} or more, or divide" if apart < wanted <= 10 else "divide"
+    return f"more than {POINTS} points: {advice} the drawing"
 
 
 def scaled(blocks, width):
@@ -164,11 +143,17 @@ def check_limits(blocks, step):
             (len(blocks), BLOCKS, "colours: give lines the same one"),
             (len(lines), LINES, "lines: join their ends (Node > Join), or divide the drawing"),
             (len(lines) + cuts, LINES, "lines, counted from meeting to meeting: divide the drawing"),
-            (sum(map(len, lines)) + cuts, POINTS, "points: take --apart=1, or divide the drawing"),
+            (sum(map(len, lines)) + cuts, POINTS, "points: take a greater --apart, or divide the drawing"),
             (steps, STEPS, "steps: take a longer STEP, or divide the drawing"),
             (reach, REACH, "tenths of a millimetre from 0 0: take --centre, or --width=N")):
         if count > limit:
             raise Refused(f"{count} {what}; a drawing has at most {limit}")
+
+
+# The colours that SVG and the palette have by one name, and the numbers of these threads.
+NAMED = {(0, 0, 0): 20, (255, 255, 255): 29, (255, 0, 0): 5, (0, 0, 255): 2, (255, 255, 0): 13, (255, 165, 0): 12,
+         (192, 192, 192): 16, (128, 128, 128): 39, (255, 0, 255): 7, (128, 0, 128): 55, (238, 130, 238): 30,
+         (245, 245, 220): 47, (240, 230, 140): 35, (230, 230, 250): 45}
 
 
 def lab(colour):
@@ -180,30 +165,30 @@ def lab(colour):
 
 
 def thread_of(colour):
-    """The number and the name of the nearest thread, by the distance CIE94."""
+    """The number and the name of the thread with the colour's name in SVG, or else of the nearest one by CIE94."""
     def distance(thread):
         (l, a, b), (m, c, d) = lab(colour), lab(bytes.fromhex(thread[:6]))
         chroma = math.hypot(a, b)
         more = chroma - math.hypot(c, d)
         hue = max((a - c) ** 2 + (b - d) ** 2 - more * more, 0)
         return (l - m) ** 2 + (more / (1 + 0.045 * chroma)) ** 2 + hue / (1 + 0.015 * chroma) ** 2
-    best = min(range(64), key=lambda k: distance(THREADS[k]))
-    return best + 1, THREADS[best][7:]
+    best = NAMED.get(tuple(colour)) or min(range(1, 65), key=lambda number: distance(THREADS[number - 1]))
+    return best, THREADS[best - 1][7:]
 
 
 def whole_lines(reader, width, within, apart):
     """The lines of whole points by colour. Those of a single point are counted."""
     drawn = scaled(reader.blocks, width) if any(reader.blocks.values()) else {}
-    curves = [piece for lines in drawn.values() for _, line in lines for piece in line if len(piece) == 4]
-    if sum(abs(curve[3] - curve[0]) for curve in curves) > POINTS * 10 * apart:
-        raise Refused(TOO_MANY)
+    pieces = [piece for lines in drawn.values() for _, line in lines for piece in line]
     blocks, total = {}, 0
+    if sum(abs(piece[3] - piece[0]) for piece in pieces if len(piece) == 4) > POINTS * 10 * apart:
+        raise Refused(too_many(pieces, apart))
     for colour, lines in drawn.items():
         for label, line in lines:
             points = points_of(line, 10 * within, 10 * apart)
             total += len(points)
             if total > POINTS:
-                raise Refused(TOO_MANY)
+                raise Refused(too_many(pieces, apart))
             if len(points) > 1:
                 blocks.setdefault(colour, []).append((label, points))
             else:
@@ -241,11 +226,11 @@ class Drawing(NamedTuple):
     page: tuple
 
 
-def drawing(root, library, step=25, within=0.1, apart=0.5, width=None, centre=False, skip=False):
-    """The drawing of a document. Lengths are mm, but for step and width: tenths."""
+def drawing(root, text, library, step=25, within=0.1, apart=0.5, width=None, centre=False, skip=False):
+    """The drawing of a document and its text. Lengths are mm, but for step and width: tenths."""
     if kind_of(root) != "svg":
         raise Refused("not an SVG file")
-    reader = Reader(root, library)
+    reader = Reader(root, text, library)
     blocks = {} if reader.faults and not skip else whole_lines(reader, width, within, apart)
     left_out = ", ".join(f"{count} {what}" for what, count in reader.left_out.items() if count)
     if not blocks:

@@ -10,13 +10,13 @@ import unicodedata
 from collections import Counter
 from typing import NamedTuple
 
-from svg_style import INHERITED, NUMBER, Refused, is_clear, kind_of, number, painted, style_of, style_rules
+from svg_geometry import CLIPPED, PX, Matrix, is_within, moved_lines, sides_of
+from svg_style import INHERITED, NUMBER, Refused, is_clear, is_illustrators, kind_of, number, painted, style_of, style_rules
 
 XLINK = "{http://www.w3.org/1999/xlink}"
 LABEL = "{http://www.inkscape.org/namespaces/inkscape}label"
-# Lengths of a unit in px, of which 96 are an inch; and of a px in tenths of a millimetre.
+# Lengths of a unit in px, of which 96 are an inch.
 UNITS = {"": 1, "px": 1, "mm": 96 / 25.4, "cm": 96 / 2.54, "in": 96, "pt": 4 / 3, "pc": 16, "q": 96 / 101.6}
-PX = 254 / 96
 # Elements that draw nothing where they stand.
 PASSED = set("defs symbol clipPath mask marker pattern linearGradient radialGradient meshgradient filter metadata title desc"
              " style script font animate animateTransform animateMotion set view cursor solidcolor color-profile".split())
@@ -32,31 +32,19 @@ COMMANDS = {"m": "nn", "z": "", "l": "nn", "h": "n", "v": "n", "c": "nnnnnn", "s
             "a": "nnnffnn"}
 # The ids of the layers that the extension of Inkscape shows results on.
 SHOWN = {"redwork-look", "redwork-route"}
-# The greatest number of elements, each counted as often as it is cloned.
-ELEMENTS = 20000
+# The greatest number of elements, each counted as often as it is cloned, and of the parts of their paths.
+ELEMENTS, PARTS = 20000, 131072
+
+
+# What is said of areas, of which those of a traced picture are outlines of lines.
+FILLED = "it has a fill and no stroke: give it a stroke (Object > Fill and Stroke), or delete it"
+OUTLINE = "it is the outline of a traced area: trace its centre line (Path > Trace Bitmap, Centerline), or delete it"
+# What is refused of an element with a clip that cuts something off, or with a mask.
+CUT = "it is clipped or masked: release that (Object > Clip or Mask > Release)"
 
 
 class TooMuch(Exception):
     """What no drawing could hold."""
-
-
-class Matrix(NamedTuple):
-    """An affine map of points: x becomes a x + c y + e, and y becomes b x + d y + f."""
-    a: float = 1
-    b: float = 0
-    c: float = 0
-    d: float = 1
-    e: float = 0
-    f: float = 0
-
-    def of(self, x, y):
-        """What a point becomes."""
-        return self.a * x + self.c * y + self.e, self.b * x + self.d * y + self.f
-
-    def then(self, outer):
-        """This map followed by another."""
-        (e, f), (a, b), (c, d) = outer.of(self.e, self.f), outer.of(self.a, self.b), outer.of(self.c, self.d)
-        return Matrix(a - outer.e, b - outer.f, c - outer.e, d - outer.f, e, f)
 
 
 class Place(NamedTuple):
@@ -67,6 +55,7 @@ class Place(NamedTuple):
     left_out: str = ""
     uses: tuple = ()
     labels: tuple = ()
+    clip: object = None
 
 
 def plain(text):
@@ -183,33 +172,22 @@ def shape_path(kind, element, size):
     return element.get("d", "") if kind == "path" else f"M{points}{'z' * (kind == 'polygon')}" if points else ""
 
 
-def lines_of(text, matrix, library):
-    """The lines of a path in tenths of a millimetre: lists of pieces, each two points, or the four of a cubic curve."""
-    wanted, text = checked_path(text)
-    parts, lines = library.lines_of(text)
-    if parts != wanted:
-        raise Refused("its path can't be read: simplify it (Path > Simplify)")
-    return [[tuple(moved(matrix, point) for point in piece) for piece in line] for line in lines]
-
-
-def moved(matrix, point):
-    """A point in tenths of a millimetre, from one in the units of a shape."""
-    x, y = (PX * part for part in matrix.of(point.real, point.imag))
-    if not abs(x) + abs(y) < 1e9:
-        raise Refused("its numbers are too large")
-    return complex(x, y)
-
-
 class Reader:
     """Collects the lines of a document's visible strokes by colour, counts what is left out, and lists what isn't a line."""
 
-    def __init__(self, root, library):
+    def __init__(self, root, text, library):
         self.by_id, self.parents = {}, {child: element for element in root.iter() for child in element}
         for element in root.iter():
             self.by_id.setdefault(element.get("id"), element)
-        self.rules, self.faults, self.left_out, self.visits = style_rules(root), [], Counter(), 0
+        self.rules, self.faults, self.left_out, self.visits, self.parts = style_rules(root), [], Counter(), 0, 0
         self.blocks, self.notes, self.library, self.page = {}, [], library, Matrix()
-        self.visit(root, Place(Matrix(), dict(INHERITED)))
+        notes = ("".join(element.itertext()) for element in root.iter() if kind_of(element) == "metadata")
+        self.sides, self.is_traced = None, any("potrace" in note for note in notes)
+        units = root.get("width", "") + root.get("height", "")
+        in_points = is_illustrators(text) and not re.search("mm|cm|in|p[tc]|q", units.lower())
+        if in_points:
+            self.notes.append("size: Illustrator wrote the file, so a px is 1/72 inch; --width=N gives another")
+        self.visit(root, Place(Matrix(96 / 72, 0, 0, 96 / 72) if in_points else Matrix(), dict(INHERITED)))
 
     def visit(self, element, place, clone=None):
         """Reads an element and all that is in it. A clone is the `use` that refers to the element."""
@@ -221,19 +199,30 @@ class Reader:
             return
         try:
             place = self.inside(kind, element, place, clone)
+            drawn = {colour: len(lines) for colour, lines in self.blocks.items()} if place.clip else {}
             if kind in GROUPS:
                 children = [child for child in element if kind_of(child) and not (
                     kind == "switch" and (child.get("requiredExtensions") or child.get("systemLanguage")))]
                 for child in children[:1] if kind == "switch" else children:
-                    self.visit(child, place)
+                    self.visit(child, place._replace(clip=None))
             elif place.left_out or place.style["visibility"] in ("hidden", "collapse"):
                 self.left_out[place.left_out or "hidden"] += 1
             else:
                 self.visit_leaf(kind, element, place)
+            if place.clip:
+                self.check_clip(place.clip, drawn)
         except Refused as why:
             self.faults.append(f"{kind} {element.get('id', 'without id')!r}: {why}")
         except (ArithmeticError, ValueError):
             self.faults.append(f"{kind} {element.get('id', 'without id')!r}: its numbers are too large")
+
+    def check_clip(self, clip, drawn):
+        """Refuses an element that its clip cuts, without the lines that were drawn of it: those after the first ones."""
+        lines = [line for colour, block in self.blocks.items() for _, line in block[drawn.get(colour, 0):]]
+        if not all(is_within(line, clip) for line in lines):
+            for colour, block in self.blocks.items():
+                del block[drawn.get(colour, 0):]
+            raise Refused(CUT)
 
     def visit_leaf(self, kind, element, place):
         """Reads an element that isn't a group, and is visible."""
@@ -256,20 +245,36 @@ class Reader:
             return place._replace(style=style, left_out=place.left_out or left_out)
         if style["moves"]:
             raise Refused(f"its style has {style['moves']!r}, which isn't read: simplify it (Path > Simplify)")
-        if style["clip-path"] != "none" or style["mask"] != "none":
-            raise Refused("it is clipped or masked: release that (Object > Clip or Mask > Release)")
+        if style["mask"] != "none":
+            raise Refused(CUT)
         matrix = transform_of(element.get("transform", ""), self.library).then(place.matrix)
+        clip = None if style["clip-path"] == "none" else self.clip_of(style["clip-path"], matrix, place.size)
         label = element.get(LABEL) or element.get("id")
         labels = place.labels + ((label,) if label and kind in SHAPES | {"use"} else ())
-        place = place._replace(matrix=matrix, style=style, labels=labels)
+        place = place._replace(matrix=matrix, style=style, labels=labels, clip=clip)
         return self.viewport(element, place, clone) if kind in ("svg", "symbol") else place
+
+    def clip_of(self, text, matrix, size):
+        """The matrix and the sides of a clip that is one rectangle. Another is refused."""
+        found = re.fullmatch(r"""url\(\s*["']?#([^"')]*)["']?\s*\)""", text)
+        around = self.by_id.get(found[1]) if found else None
+        shapes = [] if around is None else [child for child in around if kind_of(child) and kind_of(child) not in PASSED]
+        if len(shapes) != 1 or kind_of(shapes[0]) not in SHAPES or around.get("clipPathUnits") == "objectBoundingBox" or any(
+                style_of(one, INHERITED, self.rules, self.parents)["clip-path"] != "none" for one in (around, *shapes)):
+            raise Refused(CUT)
+        for one in (around, *shapes):
+            matrix = transform_of(one.get("transform", ""), self.library).then(matrix)
+        sides = sides_of(self.lines_of(kind_of(shapes[0]), shapes[0], size))
+        if not sides:
+            raise Refused(CUT)
+        return matrix, sides
 
     def page_size(self, asked, box):
         """The size of which the document's percentages are, in px. One side alone gives the other by the viewBox."""
         given = [name for name in asked if "%" not in asked[name]]
         if not box:
             return None, None
-        if not given:
+        if not given and not self.notes:
             self.notes.append("size: not given, so a unit is a px of 1/96 inch; --width=N gives another")
         rate = 1
         if len(given) == 1:
@@ -294,7 +299,7 @@ class Reader:
         if None in sides:
             raise Refused("its size is a part of one that isn't given: set width and height of the document")
         place = place._replace(matrix=fitted(element, x, y, *sides, box).then(place.matrix), size=tuple(box[2:]))
-        self.page = place.matrix if outer else self.page
+        self.page, self.sides = (place.matrix, box) if outer else (self.page, self.sides)
         return place
 
     def visit_clone(self, element, place):
@@ -309,16 +314,39 @@ class Reader:
         place = place._replace(matrix=Matrix(e=x, f=y).then(place.matrix), uses=place.uses + (target,))
         self.visit(target, place, element)
 
+    def lines_of(self, kind, element, size):
+        """The lines of a shape in its own units: lists of pieces, each two points, or the four of a cubic curve."""
+        wanted, text = checked_path(shape_path(kind, element, size))
+        self.parts += wanted
+        if self.parts > PARTS:
+            raise TooMuch(f"more than {PARTS} parts of paths: simplify them (Path > Simplify), or divide the drawing")
+        parts, lines = self.library.lines_of(text)
+        if parts != wanted:
+            raise Refused("its path can't be read: simplify it (Path > Simplify)")
+        return lines
+
+    def is_background(self, lines, matrix):
+        """Whether lines in the units of a matrix are a rectangle around the page."""
+        sides = sides_of(moved_lines(matrix, lines))
+        if not sides or not self.sides:
+            return False
+        x, y, width, height = self.sides
+        (left, upper), (right, lower) = (self.page.of(*corner) for corner in ((x, y), (x + width, y + height)))
+        return (sides[0] / PX - CLIPPED <= left and sides[1] / PX - CLIPPED <= upper
+                and right <= sides[2] / PX + CLIPPED and lower <= sides[3] / PX + CLIPPED)
+
     def draw(self, kind, element, place):
         """Adds the lines of a shape to the block of its colour."""
         style = place.style
         stroke = "transparent" if is_clear(style["stroke-width"].rstrip("px")) else painted(style, "stroke", self.library)
         if isinstance(stroke, tuple):
-            lines = lines_of(shape_path(kind, element, place.size), place.matrix, self.library)
+            lines = moved_lines(place.matrix, self.lines_of(kind, element, place.size))
             label = plain("/".join(place.labels))
             self.left_out["empty"] += not lines
             self.blocks.setdefault(stroke, []).extend((label, line) for line in lines)
         elif kind != "line" and (style["fill"].startswith("url(") or isinstance(painted(style, "fill", self.library), tuple)):
-            raise Refused("it has a fill and no stroke: give it a stroke (Object > Fill and Stroke), or delete it")
+            if not self.is_background(self.lines_of(kind, element, place.size), place.matrix):
+                raise Refused(OUTLINE if self.is_traced else FILLED)
+            self.left_out["as large as the page, without a stroke"] += 1
         else:
             self.left_out["transparent" if stroke else "without a stroke"] += 1

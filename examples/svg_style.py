@@ -21,6 +21,12 @@ def kind_of(element):
     return tag.replace(SVG, "") if tag.startswith(SVG) or "{" not in tag else ""
 
 
+def is_illustrators(text):
+    """Whether a document says, up to the end of its first tag, that Adobe Illustrator wrote it."""
+    head = re.match(r"(?s).*?<svg\b[^>]*>", text)
+    return bool(head and re.search("Adobe ?Illustrator", head[0]))
+
+
 def number(text):
     """A number, or a percentage as a part of 1; None if it is neither."""
     found = re.fullmatch(rf"\s*({NUMBER})\s*(%?)\s*", text)

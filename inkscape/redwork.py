@@ -2,7 +2,9 @@
 
 Its dialogs are the files redwork_*.inx, each of which names one of the commands save, look and route.
 """
+import contextlib
 import os
+import re
 import sys
 import tempfile
 import xml.etree.ElementTree as ElementTree
@@ -21,16 +23,18 @@ from svg_drawing import drawing
 from svg_strokes import TooMuch
 from svg_style import Refused
 
+# The first line of the file that has the reason why there is no design.
+REFUSED = "Stitch made no design of the drawing:"
 # What the shared reader advises, as options of from_svg.py, in the words of this editor.
-ADVICE = {"take --apart=1, or divide": "divide", "take --centre, or --width=N": "move it to the page, or scale it",
-          ", or take --width=N": "", "; --width=N gives another": ": set it in Document Properties",
-          "a longer STEP": "a longer stitch"}
+ADVICE = {"take (a greater )?--apart[^,]*, or divide": "divide", "a longer STEP": "a longer stitch",
+          "take --centre, or --width=N": "move it to the page, or scale it", ", or take --width=N": "",
+          "; --width=N gives another": ": set it in Document Properties"}
 
 
 def in_editor(message):
     """A message of the shared reader with the advice that holds in the editor."""
     for option, words in ADVICE.items():
-        message = message.replace(option, words)
+        message = re.sub(option, words, message)
     return message
 
 
@@ -49,10 +53,11 @@ class Redwork:
 
     def drawn(self):
         """The drawing of the document, by the reader that from_svg.py uses too."""
-        text = etree.tostring(self.document)
+        # lxml writes an & in the name of a namespace as it is, such as Illustrator's &ns_ai; after Inkscape has read the file
+        text = re.sub(rb'(xmlns:[\w.-]+="[^"&]*)&(?!amp;)', rb"\1&amp;", etree.tostring(self.document))
         try:
-            made = drawing(ElementTree.fromstring(text), library, step=self.options.step, centre=self.options.centre,
-                           skip=self.options.skip)
+            made = drawing(ElementTree.fromstring(text), text.decode("latin-1"), library, step=self.options.step,
+                           centre=self.options.centre, skip=self.options.skip)
         except (Refused, TooMuch) as why:
             raise inkex.AbortExtension(in_editor(str(why))) from None
         except (RecursionError, MemoryError):
@@ -73,31 +78,72 @@ class Redwork:
                 raise inkex.AbortExtension(str(why)) from None
 
 
+def is_commanded():
+    """Whether Inkscape was started to export by words on its command line, so far as this can be seen."""
+    try:
+        with open(f"/proc/{os.getppid()}/cmdline", "rb") as words:
+            return any(word[:1] == b"-" for word in words.read().split(b"\0")[1:])
+    except OSError:
+        return False
+
+
+def is_reason(name):
+    """Whether a file has the reason of an earlier refusal."""
+    try:
+        with open(name, "rb") as file:
+            return file.readline().rstrip() == REFUSED.encode()
+    except OSError:
+        return False
+
+
 class Save(Redwork, inkex.OutputExtension):
     """Saves the document as a design, and keeps the drawing and the certificate that `stitch check` judges it by."""
 
     def save(self, stream):
-        design = self.worked(lambda made, work: self.tied(work, self.kept(work, *work.route(self.options.form))))
+        try:
+            design = self.worked(lambda made, work: self.tied(work, self.kept(work, *work.route(self.options.form))))
+        except Exception as why:
+            fault = "" if isinstance(why, inkex.AbortExtension) else f"The document can't be read: {type(why).__name__}: "
+            design = self.refused(f"{fault}{why}")
         stream.write(design)
 
     def tied(self, work, design):
         """The design for the machine: tied where it is chosen. The kept proof is about the one without ties."""
         return work.tie(self.options.form) if self.options.tie else design
 
-    def kept(self, work, design, certificate, _report):
-        """The design, once its proof is kept. Inkscape doesn't say where the design goes, so the dialog names the folder."""
+    def beside(self, ending):
+        """The name of a file that is kept: the dialog names its folder, since Inkscape doesn't say where the design goes."""
         path = self.document_path() or ""
         folder = os.path.expanduser(self.options.folder.strip()) or os.path.dirname(path)
-        if not folder:
+        name = os.path.splitext(os.path.basename(path))[0] or "redwork"
+        return os.path.join(folder, f"{name}.{self.options.form}.{ending}") if folder else None
+
+    def kept(self, work, design, certificate, _report):
+        """The design, once its proof is kept, and no earlier refusal."""
+        if self.beside("rw") is None:
             inkex.errormsg("No certificate was kept, as the document has no folder yet: save it, or name one in the dialog.")
             return design
-        name = os.path.splitext(os.path.basename(path))[0] or "redwork"
         for ending, contents in (("rw", work.read(work.name)), ("cert", certificate)):
-            self.keep(os.path.join(folder, f"{name}.{self.options.form}.{ending}"), contents)
+            self.keep(self.beside(ending), contents)
+        if is_reason(self.beside("txt")):
+            os.remove(self.beside("txt"))
         return design
 
+    def refused(self, why):
+        """Keeps and shows why there is no design. An Inkscape without a window ends in a crash where nothing is written, and
+        gets the reason in place of the design; one with a window then says that nothing was saved."""
+        name, text = self.beside("txt"), f"{REFUSED}\n{why}\n".encode()
+        with contextlib.suppress(inkex.AbortExtension):
+            if name and (is_reason(name) or not os.path.exists(name)):
+                self.keep(name, text)
+                why += f"\nThis is in {name} too."
+        inkex.errormsg(why)
+        if not is_commanded():
+            sys.exit(1)
+        return text
+
     def keep(self, name, contents):
-        """Writes a file of the proof."""
+        """Writes a file beside the design."""
         try:
             with open(name, "wb") as out:
                 out.write(contents)
