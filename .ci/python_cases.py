@@ -138,19 +138,37 @@ def test_programs():
     as_program("stitch_design", [], {})
 
 
+def convert_folder(*words):
+    """The status of convert_folder.py, and the lines that it prints."""
+    ran = subprocess.run([sys.executable, os.path.join(HOME, "python", "convert_folder.py"), *words], capture_output=True, text=True)
+    return ran.returncode, ran.stdout.splitlines() or ran.stderr.splitlines()[-1:]
+
+
 def test_folder():
     with tempfile.TemporaryDirectory() as folder:
         source, target = os.path.join(folder, "in"), os.path.join(folder, "out")
         os.mkdir(source)
-        open(os.path.join(source, "a.lst"), "wb").write(LIST)
-        open(os.path.join(source, "b.lst"), "wb").write(b"no list\n")
-        open(os.path.join(source, "c.txt"), "wb").write(b"")
-        ran = subprocess.run([sys.executable, os.path.join(HOME, "python", "convert_folder.py"), source, "dst", target],
-                             capture_output=True, text=True)
-        lines = ran.stdout.splitlines()
-        same("folder", (ran.returncode, lines[0], lines[-1], sorted(os.listdir(target))),
-             (1, "a.lst: a.dst", "2 files, 1 converted, 1 refused", ["a.dst"]))
+        for name, content in (("a.lst", LIST), ("b.lst", b"no list\n"), ("c.txt", b"")):
+            open(os.path.join(source, name), "wb").write(content)
+        status, lines = convert_folder(source, "dst", target)
+        same("folder", (status, lines[0], lines[-1], sorted(os.listdir(target))),
+             (1, "a.lst: a.dst", "2 files, 1 converted, 1 refused, 0 skipped", ["a.dst"]))
         same("folder's file", open(os.path.join(target, "a.dst"), "rb").read(), stitch.convert(LIST, "lst", "dst"))
+        # a customer's file stays, unless it is to be overwritten
+        os.remove(os.path.join(source, "b.lst"))
+        for words, said, kept in (((), "a.dst is there: skipped", True), (("--overwrite",), "a.dst", False)):
+            open(os.path.join(target, "a.dst"), "wb").write(b"a customer's")
+            status, lines = convert_folder(*words, source, "dst", target)
+            same("folder again", (status, lines[0]), (int(kept), "a.lst: " + said))
+            same("a customer's file", open(os.path.join(target, "a.dst"), "rb").read() == b"a customer's", kept)
+        # what would write over a source, or one result over another, writes nothing
+        open(os.path.join(source, "A.EXP"), "wb").write(stitch.convert(LIST, "lst", "exp"))
+        for out, said in ((source + "/.", f"{source}/. is the folder itself: name another for the converted files"),
+                          (os.path.join(folder, "new"), "A.EXP and a.lst would both become a.dst: move one of them")):
+            status, lines = convert_folder("--overwrite", source, "dst", out)
+            same("no folder", (status, lines), (2, [f"convert_folder.py: error: {said}"]))
+            same("no file", (sorted(os.listdir(source)), os.path.exists(os.path.join(folder, "new"))),
+                 (["A.EXP", "a.lst", "c.txt"], False))
 
 
 for test in (test_functions, test_exports, test_refusals, test_programs, test_folder):
