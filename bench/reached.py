@@ -83,7 +83,7 @@ def clauses(crate, file, function):
     for line in open(os.path.join(HOME, crate, "src", file), encoding="utf-8"):
         imports.update(imported(line.rstrip("\n")))
         inside = inside or re.match(rf"\s*(?:pub )?fn {function}\b", line) is not None
-        if inside and line.strip() == "{":
+        if inside and line.strip() in ("{", "{}"):
             break
         if inside and (text or line.lstrip().startswith(("requires ", "ensures "))):
             text = (text or "") + line
