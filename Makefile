@@ -39,6 +39,9 @@ install -m 644 $(NAMES:%=completions/_%) $(1)/$(2)
 install -m 644 $(NAMES:%=completions/%.fish) $(1)/$(FISH)
 install -m 644 README.md CHANGELOG.md $(1)/$(DOC)
 install -m 644 docs/*.md docs/*.svg docs/*.png $(1)/$(DOC)/docs
+install -d $(1)/share/stitch
+install -m 755 redwork $(1)/bin
+install -m 644 $(wildcard examples/*svg*.py) inkscape/redwork_programs.py $(1)/share/stitch
 endef
 
 # The WebAssembly module of the programs, if one is given.
@@ -81,7 +84,7 @@ library: ## prove the library and put it with its header and pkg-config file bel
 uninstall: ## remove what install installed
 	rm -f $(addprefix $(DESTDIR)$(PREFIX)/,$(NAMES:%=bin/%) $(NAMES:%=share/man/man1/%.1) $(NAMES:%=$(BASH)/%))
 	rm -f $(addprefix $(DESTDIR)$(PREFIX)/,$(NAMES:%=$(ZSH)/_%) $(NAMES:%=$(FISH)/%.fish))
-	rm -rf $(DESTDIR)$(PREFIX)/$(DOC)
+	rm -rf $(DESTDIR)$(PREFIX)/$(DOC) $(DESTDIR)$(PREFIX)/share/stitch $(DESTDIR)$(PREFIX)/bin/redwork
 	@case $$(inkscape --system-data-directory 2> /dev/null) in $(PREFIX)/*) \
 		rm -rf "$(DESTDIR)$$(inkscape --system-data-directory 2> /dev/null)/extensions/redwork" ;; esac
 
