@@ -165,12 +165,6 @@ for colour, wanted in (("hsl(120,100%,50%)", (0, 255, 0, 255)), ("hsl(240deg 100
                        ("hsl(0,50%,75%)", (223, 159, 159, 255)), ("rgb(1,2,3)", (1, 2, 3, 255))):
     if svg_style.colour_of(colour, None) != wanted:
         wrong(colour, wanted, svg_style.colour_of(colour, None))
-draws(["color 28", "0 0 20 0", "0 20 20 20", "color 20", "0 10 20 10"],
-      '<path stroke="#f00" d="M0 0h2"/><path d="M0 1h2"/><path stroke="rgb(255 0 0 / 1)" d="M0 2h2"/>')
-for number, thread in enumerate(svg_drawing.THREADS, 1):
-    if svg_drawing.thread_of(bytes.fromhex(thread[:6]))[0] != number:
-        wrong(thread, number, svg_drawing.thread_of(bytes.fromhex(thread[:6])))
-
 # the colours that SVG and the palette have by one name; beside them the nearest in a space of seen colour
 for name, number in (
         ("black", 20), ("white", 29), ("red", 5), ("blue", 2), ("yellow", 13), ("orange", 12), ("silver", 16), ("gray", 39),
