@@ -137,18 +137,17 @@ def svg_rows(ours):
     rows = []
 
     def run(words):
-        found = ours.options_of(words)
-        if found:
+        try:
+            found = ours.options_of(words)
             content = open(found[0][0], "rb").read()
-            try:
-                if len(content) < 50000:
-                    rows.append((content.decode(), found[1]))
-            except UnicodeDecodeError:
-                pass
+            if len(content) < 50000:
+                rows.append((content.decode(), found[1]))
+        except (ours.WrongWord, UnicodeDecodeError):
+            pass
         return ours.run(words)
     # its spoiled files are left out, and so is its alarm, since here the machine may be slow
     code = open(os.path.join(TOP, ".ci", "svg_cases.py")).read()
-    code = code.replace("range(2000)", "range(0)").replace("ITIMER_REAL, 10)", "ITIMER_REAL, 0)")
+    code = code.replace("range(2000)", "range(0)").replace("ITIMER_PROF, 10)", "ITIMER_PROF, 0)")
     argv, before = sys.argv, sys.modules["from_svg"]
     sys.argv, sys.modules["from_svg"] = ["svg_cases.py", FOLDER], types.SimpleNamespace(run=run)
     try:

@@ -364,7 +364,7 @@ def test_points(page):
 def test_svg_remedies(page):
     """What a refusal of an SVG file recommends is beside it."""
     clip = '<clipPath id="c"><rect width="20" height="20"/></clipPath><path clip-path="url(#c)" d="M1 1h50v9" fill="none" stroke="red"/>'
-    ground = '<rect width="100" height="100" fill="yellow"/>' + LINE
+    ground = '<rect width="90" height="100" fill="yellow"/>' + LINE
     many = "".join(f'<path d="M{k * 0.8} 0c0 30 9 60 0 90" fill="none" stroke="red"/>' for k in range(120))
     for name, inside, remedy in (("clip", clip, "Release the clips, and sew all of their lines"),
                                  ("background", ground, "Leave filled shapes out, as a background"),

@@ -26,30 +26,54 @@ function placed([a, b, c, d, e, f], [x, y]) {
     return point;
 }
 
+// How far outside a clip a line may reach: less than is rounded.
+const CLIPPED = 0.5;
+
+// Whether a line is within a clip: the map of its units to px, and its sides.
+function isWithin(line, { map: [a, b, c, d, e, f], sides: [left, upper, right, lower] }) {
+    const by = a * d - b * c, near = CLIPPED / PX / Math.max(Math.hypot(a, b), Math.hypot(c, d));
+    const own = ([x, y]) => [(d * (x / PX - e) - c * (y / PX - f)) / by, (a * (y / PX - f) - b * (x / PX - e)) / by];
+    return atExtremes(line.map(piece => piece.map(own))).flatMap(piece => [piece[0], piece.at(-1)]).every(([x, y]) =>
+        left - near <= x && x <= right + near && upper - near <= y && y <= lower + near);
+}
+
 // The lines of what a Reader found by colour, each with its label, and what is left out: `faults`, which aren't lines, by name,
-// and the counts of the rest. Of shapes with a fill alone, or without a stroke, the outlines are lines where that is chosen.
+// and the counts of the rest. Of shapes with a fill alone, or without a stroke, the outlines are lines where that is chosen. All
+// that is in a clip that cuts something off is left out.
 function collected({ entries, notes, title }, { outlines = false }) {
     const found = { blocks: new Map(), faults: [], leftOut: new Map(), notes, title };
     const leave = (what, count) => found.leftOut.set(what, (found.leftOut.get(what) ?? 0) + count);
+    const isShape = entry => entry.path !== undefined && (outlines || !entry.leave && !entry.fault);
+    const shapes = new Map(entries.filter(isShape).map(entry => [entry, linesIn(entry)]));
+    const cut = new Set([...shapes].flatMap(([{ clips }, { lines = [] }]) =>
+        clips.filter(clip => !lines.every(line => isWithin(line, clip)))));
     for (const entry of entries) {
-        if (entry.path !== undefined && (outlines || !entry.leave && !entry.fault)) addShape(entry, found, leave);
+        const shape = shapes.get(entry);
+        if (shape?.fault) found.faults.push(shape);
+        else if (shape) addShape(entry, entry.clips.some(clip => cut.has(clip)) ? null : shape.lines, found, leave);
         else if (entry.leave) leave(entry.leave, 1);
         else found.faults.push(entry);
     }
+    for (const { name } of cut) found.faults.push({ name, fault: "svg.clipped", words: text("svg.clipped") });
     return found;
 }
 
-// Adds the lines of a shape to the block of its colour.
-function addShape({ name, path, map, colour, label }, { blocks, faults }, leave) {
+// The lines of a shape, or why it can't be read.
+function linesIn({ name, path, map }) {
     try {
-        const lines = linesOf(path).map(line => line.map(piece => piece.map(point => placed(map, point))));
-        leave("empty", lines.length ? 0 : 1);
-        if (!blocks.has(colour)) blocks.set(colour, []);
-        blocks.get(colour).push(...lines.map(line => [label, line]));
+        return { lines: linesOf(path).map(line => line.map(piece => piece.map(point => placed(map, point)))) };
     } catch (why) {
         if (!(why instanceof Refused)) throw why;
-        faults.push({ name, fault: why.key, words: why.message });
+        return { name, fault: why.key, words: why.message };
     }
+}
+
+// Adds the lines of a shape to the block of its colour, if it is no part of what a clip cuts.
+function addShape({ colour, label }, lines, { blocks }, leave) {
+    if (!lines) return;
+    leave("empty", lines.length ? 0 : 1);
+    if (!blocks.has(colour)) blocks.set(colour, []);
+    blocks.get(colour).push(...lines.map(line => [label, line]));
 }
 
 // The lines, cut where they reach the edges of the drawing, and as wide as requested. Left and upper edge stay.

@@ -39,6 +39,18 @@ export function atExtremes(pieces, isWanted = () => true) {
     return made;
 }
 
+// The left, upper, right and lower side of lines that are one upright rectangle, or null.
+export function sidesOf(lines) {
+    const [line, ...more] = lines, isSame = (a, b) => a[0] === b[0] && a[1] === b[1];
+    if (!line || more.length || line.some(piece => piece.length > 2)) return null;
+    const corners = line.filter(([a, b]) => !isSame(a, b)).map(([a]) => a), last = line.at(-1)[1];
+    if (!isSame(last, line[0][0])) corners.push(last);
+    const [xs, ys] = [0, 1].map(axis => [...new Set(corners.map(corner => corner[axis]))].sort((one, other) => one - other));
+    const isSlanted = corners.some((b, k) => k && corners[k - 1][0] !== b[0] && corners[k - 1][1] !== b[1]);
+    const isOne = corners.length === 4 && new Set(corners.map(corner => corner.join())).size === 4 && xs.length === 2 && ys.length === 2;
+    return isOne && !isSlanted ? [xs[0], ys[0], xs[1], ys[1]] : null;
+}
+
 // The nearest whole numbers. What differs by less than a millionth rounds alike, so that clones meet.
 export function rounded(point) {
     return point.map(part => Math.floor(Number(part.toFixed(6)) + 0.5));

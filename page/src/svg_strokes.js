@@ -3,7 +3,9 @@
 // The browser reads the document, its selectors and the names of its colours. Numbers are read here, since a browser keeps
 // those of shapes and points in single precision, and a clone has no elements. The rules are those of examples/svg_strokes.py.
 import { Refused } from "./refused.js";
-import { INHERITED, NUMBER, isClear, kindOf, number, painted, styleOf, styleRules } from "./svg_style.js";
+import { linesOf } from "./svg_paths.js";
+import { sidesOf } from "./svg_points.js";
+import { INHERITED, NUMBER, isClear, isIllustrators, kindOf, number, painted, styleOf, styleRules } from "./svg_style.js";
 import { text } from "./texts.js";
 
 const XLINK = "http://www.w3.org/1999/xlink";
@@ -168,8 +170,11 @@ const breath = () => new Promise(resolve => {
 // Collects the visible strokes of a document, counts what is left out, and lists what isn't a line, in the order of the document.
 // `isReleased` reads what is clipped or masked as if it weren't, and `isPlain` leaves the style sheets out.
 export class Reader {
-    constructor(root, { isReleased = false, isPlain = false } = {}) {
-        Object.assign(this, { root, isReleased, isPlain, byId: new Map(), entries: [], notes: [], visits: 0, title: titleOf(root) });
+    constructor(root, source, { isReleased = false, isPlain = false } = {}) {
+        const units = (root.getAttribute("width") ?? "") + (root.getAttribute("height") ?? "");
+        Object.assign(this, { root, isReleased, isPlain, byId: new Map(), entries: [], notes: [], visits: 0, title: titleOf(root), page: null,
+            isTraced: [...root.getElementsByTagName("metadata")].some(notes => notes.textContent.includes("potrace")),
+            isInPoints: isIllustrators(source) && !/mm|cm|in|p[tc]|q/i.test(units) });
     }
 
     // Reads the document, in turns with all else that the page does.
@@ -180,7 +185,9 @@ export class Reader {
         }
         if (root.hasAttribute("id")) byId.set(root.getAttribute("id"), root);
         this.rules = this.isPlain ? [] : styleRules(root);
-        const around = { map: SAME, style: { ...INHERITED }, size: [null, null], leftOut: "", uses: [], labels: [], depth: 0 };
+        if (this.isInPoints) this.notes.push(text("svg.points72"));
+        const around = { map: this.isInPoints ? [96 / 72, 0, 0, 96 / 72, 0, 0] : SAME, style: { ...INHERITED }, size: [null, null],
+            leftOut: "", uses: [], labels: [], clips: [], depth: 0 };
         const waiting = [[root, around, null]];
         for (let since = performance.now(); waiting.length;) {
             if (performance.now() - since > TURN) {
@@ -204,7 +211,7 @@ export class Reader {
         if (!kind || SHOWN.has(id) || PASSED.has(kind) && !(kind === "symbol" && clone)) return [];
         const name = `${kind} ${id === null ? text("svg.withoutId") : `'${id}'`}`;
         try {
-            const place = { ...this.inside(kind, element, around, clone), depth: around.depth + 1 };
+            const place = { ...this.inside(kind, element, around, clone, name), depth: around.depth + 1 };
             if (GROUPS.has(kind)) return this.shownChildren(kind, element).map(child => [child, place, null]);
             if (place.leftOut || ["hidden", "collapse"].includes(place.style.visibility)) this.leave(place.leftOut || "hidden");
             else if (kind === "use") return [this.cloned(element, place)];
@@ -232,24 +239,47 @@ export class Reader {
     }
 
     // The place of an element's own shape, or of the elements in it.
-    inside(kind, element, around, clone) {
+    inside(kind, element, around, clone, name) {
         const style = styleOf(element, around.style, this.rules);
         const leftOut = around.leftOut || (style.display === "none" ? "hidden" : isClear(style.opacity) ? "transparent" : "");
         if (leftOut) return { ...around, style, leftOut };
         if (style.moves) throw new Refused("svg.moves", { property: style.moves });
-        if (!this.isReleased && (style["clip-path"] !== "none" || style.mask !== "none")) throw new Refused("svg.clipped");
+        if (!this.isReleased && style.mask !== "none") throw new Refused("svg.clipped");
         const map = then(transformOf(element.getAttribute("transform") ?? ""), around.map);
+        const clips = this.isReleased || style["clip-path"] === "none" ? around.clips
+            : [...around.clips, { name, ...this.clipOf(style["clip-path"], map, around.size) }];
         const label = element.getAttributeNS(INKSCAPE, "label") || element.getAttribute("id");
         const labels = label && (SHAPES.has(kind) || kind === "use") ? [...around.labels, label] : around.labels;
-        const place = { ...around, map, style, labels };
+        const place = { ...around, map, style, labels, clips };
         return kind === "svg" || kind === "symbol" ? this.viewport(element, place, clone) : place;
+    }
+
+    // The map and the sides of a clip that is one rectangle. Another is refused.
+    clipOf(given, map, size) {
+        const found = /^url\(\s*["']?#([^"')]*)["']?\s*\)$/.exec(given), around = found && this.byId.get(found[1]);
+        const shapes = around ? [...around.children].filter(child => kindOf(child) && !PASSED.has(kindOf(child))) : [];
+        if (shapes.length !== 1 || !SHAPES.has(kindOf(shapes[0])) || around.getAttribute("clipPathUnits") === "objectBoundingBox"
+            || [around, ...shapes].some(one => styleOf(one, INHERITED, this.rules)["clip-path"] !== "none")) throw new Refused("svg.clipped");
+        for (const one of [around, ...shapes]) map = then(transformOf(one.getAttribute("transform") ?? ""), map);
+        const sides = sidesOf(linesOf(shapePath(kindOf(shapes[0]), shapes[0], size)));
+        if (!sides) throw new Refused("svg.clipped");
+        return { map, sides };
+    }
+
+    // Whether a path in the units of a map is a rectangle around the page.
+    isBackground(path, map) {
+        const px = sidesOf(linesOf(path).map(line => line.map(piece => piece.map(([x, y]) => of(map, x, y)))));
+        if (!px || !this.page) return false;
+        const { map: page, box: [x, y, width, height] } = this.page;
+        const [[left, upper], [right, lower]] = [of(page, x, y), of(page, x + width, y + height)];
+        return px[0] - 0.5 <= left && px[1] - 0.5 <= upper && right <= px[2] + 0.5 && lower <= px[3] + 0.5;
     }
 
     // The size of which the document's percentages are, in px. One side alone gives the other by the viewBox.
     pageSize(asked, box) {
         const given = Object.keys(asked).filter(name => !asked[name].includes("%"));
         if (!box) return [null, null];
-        if (!given.length) this.notes.push(text("svg.noSize"));
+        if (!given.length && !this.isInPoints) this.notes.push(text("svg.noSize"));
         let rate = 1;
         if (given.length === 1) {
             rate = lengthOf(given[0], asked[given[0]], null) / box[given[0] === "width" ? 2 : 3];
@@ -272,7 +302,9 @@ export class Reader {
         if (sides.some(side => side !== null && side <= 0)) throw new Refused("svg.noArea");
         if (!box) return { ...place, map: then(moveBy(x, y), place.map), size: sides };
         if (sides.includes(null)) throw new Refused("svg.sizeOfNone");
-        return { ...place, map: then(fitted(element, x, y, ...sides, box), place.map), size: box.slice(2) };
+        const map = then(fitted(element, x, y, ...sides, box), place.map);
+        if (isOuter) this.page = { map, box };
+        return { ...place, map, size: box.slice(2) };
     }
 
     // What a `use` refers to, with its place.
@@ -288,7 +320,8 @@ export class Reader {
     // Adds a shape with the colour of its stroke. One with a fill alone isn't a line; its outline has the colour of the fill.
     draw(kind, element, place, name) {
         const { style, map } = place, stroke = isClear(style["stroke-width"].replace(/[px]+$/, "")) ? "transparent" : painted(style, "stroke");
-        const shape = colour => ({ name, label: plain(place.labels.join("/")), colour, path: shapePath(kind, element, place.size), map });
+        const shape = colour => ({ name, label: plain(place.labels.join("/")), colour, path: shapePath(kind, element, place.size), map,
+            clips: place.clips });
         if (Array.isArray(stroke)) {
             this.entries.push(shape(stroke.join()));
             return;
@@ -303,7 +336,9 @@ export class Reader {
             }
         };
         const fill = kind === "line" ? null : style.fill.startsWith("url(") ? [0, 0, 0] : painted(style, "fill");
-        if (Array.isArray(fill)) this.entries.push({ ...outline(fill.join()), fault: "svg.fill", words: text("svg.fill") });
+        const filled = Array.isArray(fill) && outline(fill.join());
+        if (filled && filled.path && this.isBackground(filled.path, map)) this.leave("page");
+        else if (filled) this.entries.push({ ...filled, fault: "svg.fill", words: text(this.isTraced ? "svg.outline" : "svg.fill") });
         else if (stroke) this.leave("transparent");
         else this.entries.push({ ...outline("0,0,0"), leave: "unstroked" });
     }
@@ -312,7 +347,7 @@ export class Reader {
 // The strokes of an SVG file's text, or why it can't be read.
 export async function strokesOf(source, options = {}) {
     try {
-        return await new Reader(parseSvg(source), options).read();
+        return await new Reader(parseSvg(source), source, options).read();
     } catch (why) {
         if (why instanceof Refused) return { refused: [{ key: why.key, words: why.message, values: why.values }] };
         throw why;

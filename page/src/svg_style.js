@@ -19,6 +19,12 @@ export function kindOf(element) {
     return [SVG, null].includes(element.namespaceURI) ? element.localName : "";
 }
 
+// Whether a document says, up to the end of its first tag, that Adobe Illustrator wrote it.
+export function isIllustrators(source) {
+    const begin = source.search(/<svg\b/), end = source.indexOf(">", begin);
+    return begin >= 0 && /Adobe ?Illustrator/.test(source.slice(0, end));
+}
+
 // A number, or a percentage as a part of 1; null if it is neither.
 export function number(word) {
     const found = new RegExp(`^\\s*(${NUMBER})\\s*(%?)\\s*$`).exec(word);

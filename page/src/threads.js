@@ -35,8 +35,14 @@ function distance([l, a, b], [m, c, d]) {
     return (l - m) ** 2 + (more / (1 + 0.045 * chroma)) ** 2 + hue / (1 + 0.015 * chroma) ** 2;
 }
 
-// The nearest thread of a colour of three bytes.
+// The colours that SVG and the palette have by one name, and the numbers of these threads.
+const NAMED = { "0,0,0": 20, "255,255,255": 29, "255,0,0": 5, "0,0,255": 2, "255,255,0": 13, "255,165,0": 12, "192,192,192": 16,
+    "128,128,128": 39, "255,0,255": 7, "128,0,128": 55, "238,130,238": 30, "245,245,220": 47, "240,230,140": 35, "230,230,250": 45 };
+
+// The thread with the name of a colour of three bytes in SVG, or else the nearest one.
 export function nearestThread(colour) {
+    const named = NAMED[[...colour].join()];
+    if (named) return THREADS[named - 1];
     const from = lab(colour), far = THREADS.map(thread => distance(from, lab(bytesOf(thread.colour.slice(1)))));
     return THREADS[far.indexOf(Math.min(...far))];
 }
