@@ -225,23 +225,21 @@ def shoot(page, name, width, scale):
 
 
 def test_in_firefox(_):
-    """The examples, the samples, the refusals and the limits once more, in Firefox, and that the work is kept there."""
+    """The examples, the samples, the refusals and the limits once more, in Firefox, and the ways that a person goes."""
     if firefox() is None:
         print("page: there is no firefox-esr: not tested in Firefox")
         return
-    page = FirefoxPage(os.path.join(FOLDER, "stitch.html"))
+    saved = os.path.join(FOLDER, "saved-in-firefox")
+    os.mkdir(saved)
+    page = FirefoxPage(os.path.join(FOLDER, "stitch.html"), saved)
     try:
         print(f"page: in Firefox {page.version}")
         for test in (test_examples, test_samples, test_refusals, test_limits):
             test(page)
-        page.script("[...document.querySelectorAll('.chips button')].find(one => one.textContent === 'heart.rw').click();")
-        page.until("document.querySelector('textarea').value && !window.stitch.runs()")
-        page.script("document.querySelector('textarea').value += '# mine\\n';"
-                    "document.querySelector('textarea').dispatchEvent(new Event('input', { bubbles: true }));")
-        page.until("document.querySelectorAll('.steps li').length > 1 && !window.stitch.runs()")
-        page.wait(1)
-        page.open()
-        equal("Firefox keeps the work", True, page.until("document.querySelector('textarea').value.endsWith('# mine\\n')"))
+        for name, test in vars(page_ways).items():
+            if name.startswith("test_") and not hasattr(test, "only_in_chromium"):
+                page.fresh()
+                test(page)
     finally:
         page.close()
 

@@ -1,5 +1,4 @@
 """The page in Firefox, by the Marionette protocol, which Firefox speaks without a driver."""
-import base64
 import json
 import os
 import shutil
@@ -8,10 +7,11 @@ import subprocess
 import tempfile
 import time
 
-from page_browser import RUN, SECONDS, packed
+from page_hand import SECONDS, Hand
 
-READY = """const [done] = arguments, look = () => window.stitch ? done() : setTimeout(look, 20); look();"""
-PREFERENCES = {"marionette.port": 0, "browser.shell.checkDefaultBrowser": False, "datareporting.policy.dataSubmissionEnabled": False}
+PREFERENCES = {"marionette.port": 0, "browser.shell.checkDefaultBrowser": False, "datareporting.policy.dataSubmissionEnabled": False,
+               "browser.download.folderList": 2, "browser.download.always_ask_before_handling_new_types": False,
+               "browser.download.alwaysOpenPanel": False, "dom.disable_beforeunload": True}
 
 
 def firefox():
@@ -19,13 +19,13 @@ def firefox():
     return next(filter(None, map(shutil.which, ["firefox-esr", "firefox"])), None)
 
 
-class FirefoxPage:
+class FirefoxPage(Hand):
     """The page, opened from the disk."""
 
-    def __init__(self, path):
-        self.profile = tempfile.mkdtemp()
+    def __init__(self, path, saved):
+        self.profile, self.saved, self.address = tempfile.mkdtemp(), saved, f"file://{path}"
         with open(os.path.join(self.profile, "user.js"), "w", encoding="utf-8") as preferences:
-            for name, value in PREFERENCES.items():
+            for name, value in {**PREFERENCES, "browser.download.dir": saved}.items():
                 preferences.write(f"user_pref({json.dumps(name)}, {json.dumps(value)});\n")
         self.process = subprocess.Popen([firefox(), "--headless", "--marionette", "--no-remote", "--profile", self.profile],
                                         stdout=subprocess.DEVNULL, stderr=subprocess.DEVNULL)
@@ -34,28 +34,28 @@ class FirefoxPage:
         self.number = 0
         self.version = self.call("WebDriver:NewSession", {})["capabilities"]["browserVersion"]
         self.call("WebDriver:SetTimeouts", {"script": SECONDS * 1000})
-        self.address = f"file://{path}"
         self.open()
 
-    def open(self):
-        """Opens the page, as if it had been closed before."""
+    def go(self):
         self.call("WebDriver:Navigate", {"url": self.address})
-        self.call("WebDriver:ExecuteAsyncScript", {"script": READY, "args": [], "sandbox": None})
 
-    def script(self, script):
-        return self.call("WebDriver:ExecuteScript", {"script": script, "args": [], "sandbox": None})["value"]
+    def js(self, script, *given):
+        return self.value("WebDriver:ExecuteScript", script, given)
 
-    def until(self, condition):
-        """Waits until a condition holds in the page."""
-        end = time.time() + SECONDS
-        while not self.script(f"return Boolean({condition});"):
-            if time.time() > end:
-                raise AssertionError(f"not within the time: {condition}")
-            time.sleep(0.05)
-        return True
+    def js_later(self, script, *given):
+        return self.value("WebDriver:ExecuteAsyncScript", script, given)
 
-    def wait(self, seconds):
-        time.sleep(seconds)
+    def value(self, command, script, given):
+        return self.call(command, {"script": script, "args": list(given), "sandbox": None})["value"]
+
+    def click(self, words, css="button"):
+        self.until(lambda: self.found(words, css))
+        self.js("""const [words, css] = arguments; [...document.querySelectorAll(css)].find(one => one.checkVisibility() && !one.disabled
+            && [one.textContent.trim(), one.getAttribute('aria-label')].includes(words)).click();""", words, css)
+
+    def press(self, keys):
+        active = self.call("WebDriver:GetActiveElement", {})["value"]
+        self.call("WebDriver:ElementSendKeys", {"id": next(iter(active.values())), "text": keys})
 
     def port(self):
         """The port on which Firefox listens, once it does."""
@@ -82,14 +82,6 @@ class FirefoxPage:
         if error:
             raise AssertionError(error["message"])
         return result
-
-    def run(self, program, words, files):
-        """The reply of a program in the page: its status, what it printed, and the files that it wrote."""
-        given = [program, [str(word) for word in words], packed(files)]
-        reply = self.call("WebDriver:ExecuteAsyncScript", {"script": RUN, "args": given, "sandbox": None})["value"]
-        if reply.get("failed"):
-            raise AssertionError(reply["failed"])
-        return reply["outcome"], reply["out"], reply["err"], {name: base64.b64decode(text) for name, text in reply["files"]}, reply
 
     def close(self):
         self.call("Marionette:Quit", {"flags": ["eForceQuit"]})

@@ -7,6 +7,13 @@ import zipfile
 
 from page_browser import By, Page, VIEWS, equal, examples, native, wrong
 
+
+def in_chromium(test):
+    """Marks a test that takes what only Chromium's driver has."""
+    test.only_in_chromium = True
+    return test
+
+
 # What the page does with a drawing that is made ready, as commands of the built programs.
 READY = (["snap", 2, "a.rw", "b.rw"], ["cross", "b.rw", "c.rw"], ["space", "c.rw", "d.rw"], ["free", "d.rw", "e.rw"], ["near", "e.rw", "f.rw"])
 LONG = b"redwork 3\nstep 25\ncolor 5\nline 0 0 1000 0\n"
@@ -172,7 +179,7 @@ def test_several(page):
     rows = page.says("#view-convert tbody tr")
     equal("files in the table", sorted(files), sorted(page.says("#view-convert td:first-child button")))
     needles = re.search(r"needles (\d+)", native("stitch", ["show", "rose.pes"], {"rose.pes": files["rose.pes"]})[1])[1]
-    if not any(row.startswith("rose.pes") and f" {needles} " in row for row in rows):
+    if not any(row.startswith("rose.pes") and needles in row.split() for row in rows):
         wrong("the row of rose.pes", f"{needles} needles", rows)
     page.set("To", "dst")
     page.click("Convert all into one zip")
@@ -249,7 +256,7 @@ def test_finish(page):
 
 def shown_picture(page):
     """The text of the picture that is shown as an image, of those that were made since `watch_pictures`."""
-    return page.driver.execute_async_script("""const done = arguments[0], image = [...document.querySelectorAll('.frame img')]
+    return page.js_later("""const done = arguments[0], image = [...document.querySelectorAll('.frame img')]
         .find(one => one.checkVisibility()); window.blobs.get(image.src).text().then(done);""")
 
 
@@ -319,7 +326,8 @@ def test_places(page):
           page.says("#view-drawing details:not(.more) summary")[-3:])
     equal("no ring", 0, len(page.shown(".drawn .ring")))
     page.js("for (const one of document.querySelectorAll('#view-drawing details')) one.open = true;")
-    page.until(lambda: page.shown("#view-drawing details ol button"))[0].click()
+    page.until(lambda: page.shown("#view-drawing details ol button"))
+    page.js("document.querySelector('#view-drawing details ol button').click()")
     equal("one ring", 1, len(page.shown(".drawn .ring")))
     equal("the hint", True, any(line.startswith("Lines nearly meet") for line in page.says("#view-drawing .hint")))
     page.click("Snap")
@@ -335,6 +343,7 @@ def test_places(page):
     equal("repeated lines", 1, len(page.shown("#view-drawing details ol li")))
 
 
+@in_chromium
 def test_points(page):
     """A point is chosen by a click, which doesn't move the picture, or by buttons; a piece begins there."""
     page.drop({"tee.rw": b"redwork 3\ncolor 5\nline 0 0 50 0 100 0\nline 50 0 50 50\n"})
@@ -403,7 +412,6 @@ def test_tied_check(page):
 
 def test_play(page):
     """Play begins at the beginning, with its buttons in sight; keys work wherever the focus is, and needle points stay."""
-    page.resize(1280, 900)
     page.drop(examples("heart.rw"))
     page.view("Play")
     now = lambda: int(page.js("return document.querySelector('#view-play input[type=range]').value"))  # noqa: E731
@@ -412,34 +420,34 @@ def test_play(page):
                      ".map(one => one.getBoundingClientRect().bottom))")
     equal("buttons are in sight", True, bottom < 850)
     last = int(page.js("return document.querySelector('#view-play input[type=range]').max"))
-    body = page.driver.find_element(By.TAG_NAME, "body")
     for focus in ("body", "#view-play .stage", "#view-play input[type=range]", "#view-play"):
-        page.js("document.activeElement.blur(); document.querySelector(arguments[0]).focus();", focus)
-        keys = page.driver.switch_to.active_element if focus != "body" else body
+        page.focus(focus)
         for key, wanted in (("\ue010", last), ("\ue012", last - 1), ("\ue011", 0), ("\ue014", 1)):
-            keys.send_keys(key)
+            page.press(key)
             equal(f"key {key!r} in {focus}", wanted, now())
-        keys.send_keys(" ")
+        page.press(" ")
         page.until(lambda: now() > 3, 10)
-        keys.send_keys(" ")
+        page.press(" ")
         page.until(lambda: "Play" in page.says("#view-play button.primary"))
         stopped = now()
         time.sleep(0.3)
         equal(f"the space bar in {focus}", stopped, now())
-        keys.send_keys("\ue011")
+        page.press("\ue011")
     page.click("One on")
-    body.send_keys(" ")
+    page.press(" ")
     page.until(lambda: now() > 3, 10)
-    body.send_keys(" ", "\ue010")
+    page.press(" ")
+    page.press("\ue010")
     page.until(lambda: now() == last)
     time.sleep(0.5)
     dark = """const { width, height } = document.querySelectorAll('#view-play canvas')[1], canvas = new OffscreenCanvas(width, height);
         const pen = canvas.getContext('2d', { willReadFrequently: true }); pen.drawImage(document.querySelectorAll('#view-play canvas')[1], 0, 0);
         const { data } = pen.getImageData(0, 0, width, height); let count = 0; for (let k = 3; k < data.length; k += 4) count += data[k] > 0; return count;"""
     whole = page.js(dark)
-    body.send_keys("\ue011", " ")
+    page.press("\ue011")
+    page.press(" ")
     page.until(lambda: now() >= last // 2, 60)
-    body.send_keys(" ")
+    page.press(" ")
     if not page.js(dark) > whole // 4:
         wrong("needle points while it runs", f"about half of {whole}", page.js(dark))
 
@@ -490,6 +498,7 @@ return [...document.querySelectorAll('body *')].filter(one => one.checkVisibilit
     return ratio < 4.5 ? `${one.localName} ${one.textContent.trim().slice(0, 30)}: ${ratio.toFixed(2)}` : null; }).filter(Boolean);"""
 
 
+@in_chromium
 def test_looks(page):
     """In each view, light and dark: texts have contrast, controls have names, headings and the focus go in order, nothing is too wide."""
     made = native("stitch", ["route", "rose.rw", "rose.pes", "rose.cert"], examples("rose.rw"))[3]
@@ -522,6 +531,7 @@ def long_design():
     return b"".join(rows)
 
 
+@in_chromium
 def test_no_long_script(first):
     """No script of the page runs longer than 100 ms at a stretch, by the processor's time, also on the largest files."""
     page = Page(first.path, first.saved, (1280, 900), "devtools.timeline")

@@ -69,7 +69,7 @@ export class Player {
     // Draws the acts of one thread from an index, and returns the index after them.
     stroke(from, end) {
         const { pens: [pen, holes], ratio, acts: { kinds, blocks, threads } } = this, block = blocks[from], far = 1.3 * ratio;
-        const hasHoles = this.scale > 0.4 * ratio;
+        const hasHoles = this.scale > 0.12 * ratio;
         let k = from;
         pen.beginPath();
         holes.fillStyle = "#222";
