@@ -333,6 +333,7 @@ TWICE_601 = ["step 10", "color 1", ROW_OF_601, ROW_OF_601]
 # Points are two steps apart, so that no stitch stands for one.
 POINTS_65536 = ["step 1", "color 1", line_of(snake(65534, 2)), "line 2 0 2 -2"]
 
+row_of_bad_drawing("more than 1024 lines", 5, rw(2, "color 1", *[line_of([(x, 0) for x in range(601)])] * 2))
 for version, commands in ((2, OF_DRAWING), (1, ["stitch migrate a.rw b.rw"])):
     row_of_bad_drawing("more than 1024 lines", 6, rw(version, *TWICE_601), commands)
     row_of_bad_drawing("more than 65536 points", 6, rw(version, *POINTS_65536), commands)

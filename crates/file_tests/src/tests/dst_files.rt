@@ -1,10 +1,11 @@
-use super::comparisons::compare;
-use super::feeding::{compare_counts, feed, filled, read_all, written};
+use super::comparisons::{compare, compare_row};
+use super::feeding::{compare_counts, compare_parts, feed, filled, read_all, written};
 use super::large_designs::compare_reread;
 use crate::square;
-use design_model::{Command, Point};
+use design_model::{Command, Design, ModelFault, Point};
 use dst_codec::{Dst, decode_move, encode_move};
-use format_traits::{Format, ReadFault};
+use format_traits::{Format, ReadFault, WriteFault};
+use std::alloc::Global;
 use std::process::Abort;
 use std::test::Fail;
 
@@ -53,6 +54,49 @@ fn a_command_is_told_once_its_record_is_whole(rt: HostRuntime) -> Result<(), Fai
     let header = filled(rt.alloc(), b"", b" ", 512, b"")?;
     compare_header(&rt, &mut format, header.as_slice())?;
     Ok(compare_counts(&rt, &mut format, &BYTES, &COUNTS, 524, SEQUIN)?)
+}
+
+/// Feeds a file byte by byte, and compares the number of commands after each: none before that byte, and one from it on.
+/// Then compares what was read with what is read at once.
+fn compare_one_command<F: Format>(
+    rt: &impl Abort,
+    format: &mut F,
+    alloc: Global,
+    file: &[u8],
+    from: u64,
+) -> Result<(), Fail> {
+    for byte in file {
+        feed(rt, format, &[*byte])?;
+        let count: usize = if format.taken() < from { 0 } else { 1 };
+        compare_row(rt, format.taken(), format.so_far().len(), count);
+    }
+    let whole = format.decode(alloc, file);
+    compare_parts(rt, 1, &format.finish(), &whole);
+    Ok(())
+}
+
+#[test]
+fn a_file_that_is_cut_off_has_one_command_from_byte_515_on(rt: HostRuntime) -> Result<(), Fail> {
+    let file = filled(rt.alloc(), b"", b" ", 512, &[0x00, 0x05, 0x03, 0x00, 0x05])?;
+    let mut format = Dst::new(rt.alloc());
+    compare_one_command(&rt, &mut format, rt.alloc(), file.as_slice(), 515)
+}
+
+/// Returns a design of that many stops.
+fn stopping(alloc: Global, count: u32) -> Result<Design, ModelFault> {
+    let mut design = Design::new(alloc);
+    for _ in 0..count {
+        design.push(Command::Stop)?;
+    }
+    Ok(design)
+}
+
+#[test]
+fn the_stop_after_the_999th_is_refused(rt: HostRuntime) -> Result<(), Fail> {
+    let design = stopping(rt.alloc(), 1_000)?;
+    let fault = Dst::new(rt.alloc()).encode(rt.alloc(), &design).err();
+    compare(&rt, fault, Some(WriteFault::TooManyStops { number: 1_000 }));
+    Ok(())
 }
 
 /// Compares the greatest moves and their one spelling.

@@ -74,6 +74,23 @@ fn a_file_is_short_of_its_block(rt: HostRuntime) -> Result<(), Fail> {
     Ok(())
 }
 
+/// Compares what was read of a file whose block begins at its first byte: one stitch, and 33 times the thread of a space.
+fn compare_blank(rt: &impl Abort, loaded: &Loaded) {
+    let stitch = [Command::Stitch(Point { x: 0, y: 0 })];
+    compare(rt, loaded.design.commands(), stitch.as_slice());
+    compare(rt, loaded.design.threads(), [32; 33].as_slice());
+    compare(rt, loaded.design.label(), b"");
+    compare(rt, loaded.ended, true);
+}
+
+#[test]
+fn a_block_may_begin_at_the_first_byte(rt: HostRuntime) -> Result<(), Fail> {
+    let front = b"#PES0001\x00\x00\x00\x00";
+    let file = filled(rt.alloc(), front, b" ", 516, &[0x00, 0x00, 0xFF])?;
+    compare_blank(&rt, &read_pes(&rt, rt.alloc(), file.as_slice())?);
+    Ok(())
+}
+
 /// Compares the commands before a point out of range, and after further bytes.
 fn compare_far(rt: &impl Abort, format: &mut Pes, file: &[u8]) -> Result<(), Memory> {
     feed(rt, format, file)?;
