@@ -573,7 +573,7 @@ TIED = ["block 5", *path(0, 0, 7, 0, 0, 0, 7, 0, 0, 0, 30, 0, 60, 0, 53, 0, 60, 
 TIED_REPORT = "needles 32 trims 1 stops 2\n"
 
 row("places of designs", {"a.lst": lst(*SHOP), "b.lst": lst("block 1", *path(0, 0, 0, 1, 99, 0, 1, 0, 0, 0)),
-                          "e.lst": lst("block 1", *path(0, 0, 5, 0, 0, 0, 20, 0, 40, 0, 60, 0, 80, 0, 100, 0)),
+                          "e.lst": lst("block 1", *path(0, 0, 5, 0, 0, 0, 5, 0, 40, 0, 60, 0, 80, 0, 100, 0)),
                           "c.lst": lst("block 1"), "d.exp": exp("block 1", "needle 0 0")[:2] + bytes.fromhex("8004640080010000")},
     refused("stitch_design pass a.lst", "a.lst: piece 1: not tied at its start"),
     refused("stitch_design pass b.lst short=1 long=0", "b.lst: piece 1: not tied at its start"),

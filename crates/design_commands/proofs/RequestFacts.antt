@@ -18,7 +18,7 @@ pub known_requests :
     Requests (codes "look" ∷ codes "a" ∷ codes "tie=4" ∷ codes "hole=0" ∷ codes "tie=5" ∷ [])
     (look (codes "a") (record { short = 3; long = 70; float = 60; tie = 5; hole = 0 }))
     × Requests (codes "pass" ∷ codes "a" ∷ codes "short=1000" ∷ codes "long=2" ∷ codes "float=9" ∷ [])
-    (pass (codes "a") (record { short = 1000; long = 2; float = 9; tie = 10; hole = 6 }))
+    (pass (codes "a") (record { short = 1000; long = 2; float = 9; tie = 20; hole = 6 }))
     × Requests (codes "compare" ∷ codes "a" ∷ codes "b" ∷ []) (compare (codes "a") (codes "b") false)
     × Requests (codes "compare" ∷ codes "a" ∷ codes "b" ∷ codes "--threads" ∷ []) (compare (codes "a") (codes "b") true)
     × Requests (codes "threads" ∷ codes "a" ∷ []) (list (codes "a")) × Requests (codes "threads" ∷ []) palette

@@ -13,9 +13,9 @@ use Rattle.design_commands.specs.Mistakes.{mistake_at}
 use Rattle.text_parts.specs.Parts.{split_at_byte}
 
 -- The limits where no argument gives another: stitches below 0.3 mm and above 7 mm, floats above
--- 6 mm, ties of at most 1 mm, and six needles in one hole.
+-- 6 mm, ties that reach 2 mm at most, and six needles in one hole.
 abbrev pub usual_limits : ReviewLimits
-usual_limits = record { short = 3; long = 70; float = 60; tie = 10; hole = 6 }
+usual_limits = record { short = 3; long = 70; float = 60; tie = 20; hole = 6 }
 
 -- The key of a name, if it is one.
 abbrev pub key_of_name : List ℕ → Option LimitKey

@@ -31,7 +31,7 @@ pub fn usual() -> ReviewLimits
         short: 3,
         long: 70,
         float: 60,
-        tie: 10,
+        tie: 20,
         hole: 6,
     }
 }

@@ -15,6 +15,7 @@ use Rattle.design_review.specs.declared.place.DesignPlace.{DesignPlace}
 use Rattle.design_review.specs.declared.place.DesignPlace.TheVariants as place
 use Rattle.design_review.specs.declared.reviewing.Known.{Known}
 use Rattle.design_review.specs.declared.sewn.Sewn.{Sewn}
+use Rattle.design_review.specs.declared.thread_needles.ThreadNeedle.{ThreadNeedle}
 
 abbrev at : ℕ → Point
 at x = record { x = pos x; y = pos 0 }
@@ -62,7 +63,7 @@ known_near_any = (refl, refl)
 
 -- what the code knows is a review, and the crowds of its needles
 pub known_known : (known : Known) → known_review known
-    ≡ record { limits = known.limits; needles = known.needles.now; moves = known.moves.now }
+    ≡ record { limits = known.limits; needles = known.needles.now; threads = known.threads.now; moves = known.moves.now }
 known_known known = refl
 
 pub known_known_crowds : (known : Known) (p : Point) → KnowsCrowds known → IsTrue (is_point_within 30000 p)
@@ -70,11 +71,15 @@ pub known_known_crowds : (known : Known) (p : Point) → KnowsCrowds known → I
     → get (λ a b. a == b) known.crowds.now (key_of p) ≡ crowd_of known.limits.hole known.needles.now p
 known_known_crowds known p knows near is = knows p near is
 
+-- a needle that is sewn to
+abbrev sewn_to : Point → ThreadNeedle
+sewn_to p = record { at = p; float = false }
+
 -- a piece is within the needles
-pub known_piece_end : IsPieceWithin needles (record nothing_sewn { needles = 4; before_piece = 1 }) → ⊥
+pub known_piece_end : IsPieceWithin (map sewn_to needles) (record nothing_sewn { needles = 4; before_piece = 1 }) → ⊥
 known_piece_end is = omega (arith, is.end)
 
-pub known_piece_start : IsPieceWithin needles (record nothing_sewn { needles = 2; before_piece = 3 }) → ⊥
+pub known_piece_start : IsPieceWithin (map sewn_to needles) (record nothing_sewn { needles = 2; before_piece = 3 }) → ⊥
 known_piece_start is = omega (arith, is.start)
 
 -- no more needles, pieces or stops are sewn than there are acts

@@ -10,7 +10,8 @@ use Rattle.design_review.specs.declared.place.DesignPlace.TheVariants as place
 use Rattle.design_review.specs.BlockSummaries.{summaries_of_blocks}
 use Rattle.design_review.specs.Holes.{are_in_one_hole}
 use Rattle.design_review.specs.Places.{exceeds, places_of}
-use Rattle.design_review.specs.Ties.{is_there_and_back, is_tied_at_end, is_tied_at_start}
+use Rattle.design_review.specs.declared.thread_needles.ThreadNeedle.{ThreadNeedle}
+use Rattle.design_review.specs.Ties.{backwards, is_tie_stitch, is_tied}
 
 abbrev at : ℤ → ℤ → Point
 at x y = record { x = x; y = y }
@@ -54,33 +55,47 @@ pub known_limits : (exceeds 0 9 ≡ false) × (exceeds 8 9 ≡ true) × (exceeds
 known_limits = (refl, refl, refl)
 
 abbrev tied : ReviewLimits
-tied = record { short = 0; long = 0; float = 0; tie = 10; hole = 0 }
+tied = record { short = 0; long = 0; float = 0; tie = 20; hole = 0 }
 
--- A stitch there and back leads to another point, at most the limit away, and to where it came from.
-pub known_there_and_back : (is_there_and_back 10 (at (pos 0) (pos 0)) (at (pos 6) (negsuc 7)) (at (pos 0) (pos 0)) ≡ true)
-    × (is_there_and_back 9 (at (pos 0) (pos 0)) (at (pos 6) (negsuc 7)) (at (pos 0) (pos 0)) ≡ false)
-    × (is_there_and_back 10 (at (pos 0) (pos 0)) (at (pos 6) (pos 0)) (at (pos 1) (pos 0)) ≡ false)
-    × (is_there_and_back 10 (at (pos 0) (pos 0)) (at (pos 0) (pos 0)) (at (pos 0) (pos 0)) ≡ false)
+-- A needle on the line through the origin, sewn to or floated to.
+abbrev to : ℕ → ThreadNeedle
+to x = record { at = at (pos x) (pos 0); float = false }
+
+abbrev over : ℕ → ThreadNeedle
+over x = record { at = at (pos x) (pos 0); float = true }
+
+-- Stitches of a tie are from 2.83 to 12 tenths long: by 2 and 2, but not by 2 and 1; by 12, but not by 12 and 1.
+pub known_tie_stitch : (is_tie_stitch (at (pos 0) (pos 0)) (at (negsuc 1) (pos 2)) ≡ true)
+    × (is_tie_stitch (at (pos 0) (pos 0)) (at (pos 2) (negsuc 0)) ≡ false)
+    × (is_tie_stitch (at (pos 0) (pos 0)) (at (pos 12) (pos 0)) ≡ true)
+    × (is_tie_stitch (at (pos 0) (pos 0)) (at (pos 12) (pos 1)) ≡ false)
 unfolding square_of
-known_there_and_back = (refl, refl, refl, refl)
+known_tie_stitch = (refl, refl, refl, refl)
 
--- It is looked for among the first and the last six needles.
-abbrev along : List ℕ → List Point
-along xs = map (λ x. at (pos x) (pos 0)) xs
-
-pub known_reach : (is_tied_at_start 10 (along (0 ∷ 20 ∷ 40 ∷ 60 ∷ 65 ∷ 60 ∷ 90 ∷ [])) ≡ true)
-    × (is_tied_at_start 10 (along (0 ∷ 20 ∷ 40 ∷ 60 ∷ 80 ∷ 85 ∷ 80 ∷ [])) ≡ false)
-    × (is_tied_at_end 10 (along (0 ∷ 20 ∷ 25 ∷ 20 ∷ 40 ∷ 60 ∷ 90 ∷ [])) ≡ true)
-    × (is_tied_at_end 10 (along (20 ∷ 25 ∷ 20 ∷ 40 ∷ 60 ∷ 80 ∷ 90 ∷ [])) ≡ false)
-    × (is_tied_at_start 10 (along (0 ∷ 5 ∷ [])) ≡ false)
-    × (is_tied_at_start 10 (along (0 ∷ [])) ≡ false) × (is_tied_at_end 10 (along []) ≡ false)
+-- Three of them tie a thread, in a row or not, within the reach of the first needle: 20 to the right, or 12 and 16 (3-4-5).
+pub known_tied_thread : (is_tied 20 (map to (0 ∷ 5 ∷ 0 ∷ 5 ∷ [])) ≡ true)
+    × (is_tied 20 (map to (0 ∷ 5 ∷ 0 ∷ 30 ∷ 25 ∷ [])) ≡ false)
+    × (is_tied 20 (map to (0 ∷ 1 ∷ 5 ∷ 20 ∷ 8 ∷ 7 ∷ 0 ∷ [])) ≡ true)
+    × (is_tied 20 (map to (0 ∷ 7 ∷ 14 ∷ 21 ∷ [])) ≡ false)
+    × (is_tied 21 (map to (0 ∷ 7 ∷ 14 ∷ 21 ∷ [])) ≡ true)
+    × (is_tied 20 (to 0 ∷ to 5 ∷ to 10 ∷ record { at = at (pos 12) (negsuc 16); float = false } ∷ to 5 ∷ to 0 ∷ []) ≡ false)
+    × (is_tied 20 (to 0 ∷ record { at = at (pos 6) (negsuc 7); float = false } ∷ record { at = at (pos 12) (negsuc 15); float = false }
+    ∷ record { at = at (pos 6) (negsuc 7); float = false } ∷ []) ≡ true)
+    × (is_tied 20 (to 0 ∷ to 5 ∷ to 0 ∷ over 5 ∷ to 0 ∷ to 5 ∷ []) ≡ false)
+    × (is_tied 20 (map to (0 ∷ [])) ≡ false) × (is_tied 20 [] ≡ false)
 unfolding square_of
-known_reach = (refl, refl, refl, refl, refl, refl, refl)
+known_tied_thread = (refl, refl, refl, refl, refl, refl, refl, refl, refl, refl)
 
--- The first piece is tied at its start alone, the second at its end alone, and the third, a dot, at neither.
-pub known_ties : (places_of tied (sewn (sew 0 ∷ sew 5 ∷ sew 0 ∷ sew 30 ∷ sew 50 ∷ sew 70 ∷ sew 90 ∷ sew 110 ∷ Trim
-    ∷ sew 130 ∷ sew 150 ∷ sew 170 ∷ sew 190 ∷ sew 210 ∷ sew 220 ∷ sew 210 ∷ Stop ∷ sew 300 ∷ []))
-    ≡ place.UntiedEnd 1 ∷ place.UntiedStart 2 ∷ place.UntiedStart 3 ∷ place.UntiedEnd 3 ∷ [])
+-- Backwards, a float is between the same two needles.
+pub known_backwards : (backwards (to 0 ∷ to 9 ∷ over 20 ∷ to 25 ∷ []) ≡ to 25 ∷ to 20 ∷ over 9 ∷ to 0 ∷ []) × (backwards [] ≡ [])
+known_backwards = (refl, refl)
+
+-- The first piece is tied at its start alone, the second at its end alone, and the third, a dot, at neither. The float in the
+-- last one is before the stitches that would tie its end.
+pub known_ties : (places_of tied (sewn (sew 0 ∷ sew 5 ∷ sew 0 ∷ sew 5 ∷ sew 30 ∷ sew 50 ∷ sew 70 ∷ Trim
+    ∷ sew 130 ∷ sew 150 ∷ sew 170 ∷ sew 210 ∷ sew 220 ∷ sew 210 ∷ sew 220 ∷ Stop ∷ sew 300 ∷ Trim
+    ∷ sew 400 ∷ sew 406 ∷ sew 400 ∷ sew 406 ∷ jump 400 ∷ sew 400 ∷ []))
+    ≡ place.UntiedEnd 1 ∷ place.UntiedStart 2 ∷ place.UntiedStart 3 ∷ place.UntiedEnd 3 ∷ place.UntiedEnd 4 ∷ [])
     × (places_of none (sewn (sew 300 ∷ [])) ≡ [])
 unfolding length_of square_of whole_root
 known_ties = (refl, refl)

@@ -23,6 +23,7 @@ use Rattle.design_review.specs.KnownReviews.{IsNeedleAmong}
 use Rattle.design_review.specs.NeedleKeys.{key_of}
 use Rattle.design_review.specs.Places.{Review, places_from, places_of_act, reported_after_act}
 use Rattle.design_review.specs.SewnActs.{sewn_after}
+use Rattle.design_review.specs.Ties.{thread_needles_of_acts}
 
 -- the needles of acts in range are in range
 pub needles_in_range : (acts : List NumberedAct) → IsTrue (are_in_range acts)
@@ -39,6 +40,17 @@ needles_in_range (a ∷ rest) all =
         others)
     by_act act.Trim is here others = rw is others
     by_act act.Stop is here others = rw is others
+
+-- there are as many needles as their points
+pub as_many_needles : (acts : List NumberedAct) → length (thread_needles_of_acts acts) ≡ length (needle_points_of_acts acts)
+as_many_needles [] = refl
+as_many_needles (a ∷ rest) = by_act a.act refl (as_many_needles rest)
+  where
+    by_act : (one : Act) → a.act ≡ one → length (thread_needles_of_acts rest) ≡ length (needle_points_of_acts rest)
+        → length (thread_needles_of_acts (a ∷ rest)) ≡ length (needle_points_of_acts (a ∷ rest))
+    by_act (act.Needle p float) is same = rw is (ap (λ (n : ℕ). suc n) same)
+    by_act act.Trim is same = rw is same
+    by_act act.Stop is same = rw is same
 
 -- there are no more needles than commands
 pub few_needles : (n : ℕ) (loose jumped : Bool) (commands : List Command)

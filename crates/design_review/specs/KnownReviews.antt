@@ -8,6 +8,7 @@ use Rattle.design_review.specs.declared.place.DesignPlace.{DesignPlace}
 use Rattle.design_review.specs.declared.place.DesignPlace.TheVariants as place
 use Rattle.design_review.specs.declared.reviewing.Known.{Known}
 use Rattle.design_review.specs.declared.sewn.Sewn.{Sewn}
+use Rattle.design_review.specs.declared.thread_needles.ThreadNeedle.{ThreadNeedle}
 use Rattle.design_review.specs.Crowds.{AreCrowds, AreKeysOf, has_key, is_near_any}
 use Rattle.design_review.specs.NeedleKeys.{key_of}
 use Rattle.design_review.specs.Places.{Review, place_where, places_of_act, reported_after_act}
@@ -17,6 +18,7 @@ abbrev pub known_review : Known → Review
 known_review known = record {
   limits = known.limits;
   needles = known.needles.now;
+  threads = known.threads.now;
   moves = known.moves.now;
 }
 
@@ -26,7 +28,7 @@ KnowsCrowds known =
     AreCrowds known.limits.hole known.needles.now (get (λ a b. a == b) known.crowds.now)
 
 -- The piece that is sewn is within the needles.
-pub record IsPieceWithin (needles : List Point) (sewn : Sewn) : Type 0 where
+pub record IsPieceWithin (needles : List ThreadNeedle) (sewn : Sewn) : Type 0 where
   pub start : sewn.before_piece ≤ sewn.needles
   pub end : sewn.needles ≤ length needles
 

@@ -13,16 +13,18 @@ use Rattle.design_review.specs.declared.limits.ReviewLimits.{ReviewLimits}
 use Rattle.design_review.specs.declared.place.DesignPlace.{DesignPlace}
 use Rattle.design_review.specs.declared.place.DesignPlace.TheVariants as place
 use Rattle.design_review.specs.declared.sewn.Sewn.{Sewn}
+use Rattle.design_review.specs.declared.thread_needles.ThreadNeedle.{ThreadNeedle}
 use Rattle.design_review.specs.FrameMoves.{frame_moves_of, tenths_between}
 use Rattle.design_review.specs.Holes.{is_hole_reported, needles_in_hole, reported_after}
 use Rattle.design_review.specs.SewnActs.{is_piece_open, nothing_sewn, open_piece, sewn_after}
-use Rattle.design_review.specs.Ties.{is_tied_at_end, is_tied_at_start}
+use Rattle.design_review.specs.Ties.{backwards, is_tied, thread_needles_of_design}
 
--- What a review knows of all of a design: the limits, the points of its needles, and how far the
--- frame is from the last needle at each stop.
+-- What a review knows of all of a design: the limits, the points of its needles, the needles with
+-- their floats, and how far the frame is from the last needle at each stop.
 pub record Review : Type 0 where
   pub limits : ReviewLimits
   pub needles : List Point
+  pub threads : List ThreadNeedle
   pub moves : List ℕ
 
 -- The review of a design.
@@ -30,6 +32,7 @@ abbrev pub review_of : ReviewLimits → DesignValue → Review
 review_of limits d = record {
   limits = limits;
   needles = needle_points_of_design d;
+  threads = thread_needles_of_design d;
   moves = frame_moves_of d;
 }
 
@@ -67,15 +70,15 @@ hole_places review reported command p =
     (place.Hole command (needles_in_hole review.needles p))
 
 -- The places of a piece that has ended, by its number. With the limit 0 no tie is looked for.
-abbrev pub tie_places : ReviewLimits → ℕ → List Point → List DesignPlace
-tie_places limits number piece = if limits.tie == 0 then [] else
-    place_where (not (is_tied_at_start limits.tie piece)) (place.UntiedStart number)
-    ++ place_where (not (is_tied_at_end limits.tie piece)) (place.UntiedEnd number)
+abbrev pub tie_places : ReviewLimits → ℕ → List ThreadNeedle → List DesignPlace
+tie_places limits number thread = if limits.tie == 0 then [] else
+    place_where (not (is_tied limits.tie thread)) (place.UntiedStart number)
+    ++ place_where (not (is_tied limits.tie (backwards thread))) (place.UntiedEnd number)
 
 -- The places of the piece that is sewn, where there is one.
 abbrev pub piece_places : Review → Sewn → List DesignPlace
 piece_places review sewn = if is_piece_open sewn
-    then tie_places review.limits sewn.pieces (open_piece review.needles sewn) else []
+    then tie_places review.limits sewn.pieces (open_piece review.threads sewn) else []
 
 -- The place of a block that has ended. In a design without a needle it is no place.
 abbrev pub block_places : Review → Sewn → List DesignPlace

@@ -6,6 +6,7 @@ use Rattle.design_model.specs.declared.act.Act.TheVariants.{Needle, Trim, Stop}
 use Rattle.design_model.specs.declared.point.Point.{Point}
 use Rattle.design_model.specs.Points.{origin}
 use Rattle.design_review.specs.declared.sewn.Sewn.{Sewn}
+use Rattle.design_review.specs.declared.thread_needles.ThreadNeedle.{ThreadNeedle}
 
 -- Nothing is sewn.
 abbrev pub nothing_sewn : Sewn
@@ -22,9 +23,8 @@ nothing_sewn = record {
 abbrev pub is_piece_open : Sewn → Bool
 is_piece_open sewn = nat_lt sewn.before_piece sewn.needles
 
--- The points of the piece that is sewn, among the needles of the design; none where the thread is
--- loose.
-abbrev pub open_piece : List Point → Sewn → List Point
+-- The needles of the piece that is sewn, among those of the design; none where the thread is loose.
+abbrev pub open_piece : List ThreadNeedle → Sewn → List ThreadNeedle
 open_piece needles sewn = take (sewn.needles - sewn.before_piece) (drop sewn.before_piece needles)
 
 -- What is sewn after a needle. It begins a piece where the thread is loose.

@@ -32,6 +32,7 @@ mod sameness_law;
 mod sewn;
 mod sewn_blocks;
 mod straight_lengths;
+mod thread_needles;
 mod threads_compared;
 mod ties;
 
@@ -43,4 +44,6 @@ pub use place::{DesignPlace, DesignPlaces};
 pub use reviewing::review;
 pub use sameness_law::no_difference_is_sameness;
 pub use sewn_blocks::block_summaries;
+pub use thread_needles::{ThreadNeedle, ThreadNeedles};
 pub use threads_compared::thread_difference;
+pub use ties::{backwards, is_tied};

@@ -8,7 +8,7 @@ pub struct ReviewLimits {
     pub long: u32,
     /// Floats that are longer are places.
     pub float: u32,
-    /// The longest stitch there and back that ties a thread.
+    /// How far the needles of a tie are at most from the end of a thread.
     pub tie: u32,
     /// As many needles in one hole are a place.
     pub hole: u32,

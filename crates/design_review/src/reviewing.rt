@@ -25,17 +25,19 @@ use crate::place::{DesignPlace, DesignPlaces};
 use crate::reported_holes::{Reported, is_in_reported_hole};
 use crate::sewn::Sewn;
 use crate::straight_lengths::StraightLengths;
-use crate::ties::{is_tied_at_end, is_tied_at_start};
+use crate::thread_needles::{ThreadNeedle, thread_needles};
+use crate::ties::{backwards, is_tied};
 use design_model::{Act, ActScanner, Command, Design, Memory, NumberedAct, Point};
 use std::alloc::Global;
 use std::collections::HashSet;
 
-/// What a review knows of all of a design: the limits, the points of its needles, how far the frame is from the last needle at
+/// What a review knows of all of a design: the limits, the points of its needles, the needles with their floats, how far the frame is from the last needle at
 /// each stop, and which needles are crowded.
 #[derive(Clone, Copy)]
 pub struct Known<'a> {
     pub limits: ReviewLimits,
     pub needles: &'a [Point],
+    pub threads: &'a [ThreadNeedle],
     pub moves: &'a [u64],
     pub crowds: &'a Crowds,
 }
@@ -46,12 +48,14 @@ pub fn review(alloc: Global, limits: ReviewLimits, design: &Design) -> Result<De
 {
     design.keeps_limits();
     let needles = needle_points(alloc, design)?;
+    let threads = thread_needles(alloc, design)?;
     let mut lengths = StraightLengths::new(alloc)?;
     let moves = frame_moves(alloc, &mut lengths, design)?;
     let crowds = crowds(alloc, limits.hole, needles.as_slice())?;
     let known = Known {
         limits,
         needles: needles.as_slice(),
+        threads: threads.as_slice(),
         moves: moves.as_slice(),
         crowds: &crowds,
     };
@@ -72,6 +76,7 @@ fn put_places(
     requires few { length commands.now ≤ MAX_COMMANDS }
     requires in_range { IsTrue (list_all is_command_in_range commands.now) }
     requires needles { known.needles.now ≡ needle_points_of_acts (acts_along commands.now) }
+    requires threads { length known.threads.now ≡ length known.needles.now }
     requires crowds { KnowsCrowds known }
     ensures { OnOk result (places.new ≡ places.old
         ++ places_from (known_review known.entry) [] nothing_sewn (acts_along commands.now)) }
@@ -84,15 +89,16 @@ fn put_places(
         let Some(act) = scanner.next(*command) else {
             continue;
         };
-        put_act(places, lengths, known, &mut reported, sewn, act)?;
+        put_act(alloc, places, lengths, known, &mut reported, sewn, act)?;
         sewn = sewn.after(index, act.act);
     }
-    put_end(places, known, sewn)
+    put_end(alloc, places, known, sewn)
 }
 
 /// Adds the places of an act.
 #[inline]
 fn put_act(
+    alloc: Global,
     places: &mut DesignPlaces,
     lengths: &mut StraightLengths,
     known: Known<'_>,
@@ -100,7 +106,7 @@ fn put_act(
     sewn: Sewn,
     act: NumberedAct,
 ) -> Result<(), Memory>
-    requires within { IsPieceWithin known.needles.now sewn }
+    requires within { IsPieceWithin known.threads.now sewn }
     requires few { sewn.stops < MAX_COMMANDS }
     requires crowds { KnowsCrowds known }
     requires in_range { IsTrue (is_act_in_range act.act) }
@@ -117,11 +123,11 @@ fn put_act(
             Ok(())
         }
         Act::Trim => {
-            put_piece(places, known, sewn)?;
+            put_piece(alloc, places, known, sewn)?;
             Ok(())
         }
         Act::Stop => {
-            put_stop(places, known, sewn)?;
+            put_stop(alloc, places, known, sewn)?;
             Ok(())
         }
     }
@@ -227,33 +233,40 @@ fn put_crowd(
 }
 
 /// Adds the places of the piece that is sewn, if there is one.
-fn put_piece(places: &mut DesignPlaces, known: Known<'_>, sewn: Sewn) -> Result<(), Memory>
-    requires { IsPieceWithin known.needles.now sewn }
+fn put_piece(
+    alloc: Global,
+    places: &mut DesignPlaces,
+    known: Known<'_>,
+    sewn: Sewn,
+) -> Result<(), Memory>
+    requires { IsPieceWithin known.threads.now sewn }
     ensures { OnOk result (places.new ≡ places.old ++ piece_places (known_review known.entry) sewn) }
 {
     if !sewn.is_piece_open() {
         return Ok(());
     }
-    let piece = &known.needles[sewn.before_piece..sewn.needles];
-    put_ties(places, known.limits, sewn.pieces, piece)
+    let piece = &known.threads[sewn.before_piece..sewn.needles];
+    put_ties(alloc, places, known.limits, sewn.pieces, piece)
 }
 
 /// Adds the places of a piece that has ended.
 fn put_ties(
+    alloc: Global,
     places: &mut DesignPlaces,
     limits: ReviewLimits,
     piece: u32,
-    needles: &[Point],
+    thread: &[ThreadNeedle],
 ) -> Result<(), Memory>
-    ensures { OnOk result (places.new ≡ places.old ++ tie_places limits piece needles.now) }
+    ensures { OnOk result (places.new ≡ places.old ++ tie_places limits piece thread.now) }
 {
-    let most = limits.tie;
-    if most == 0 {
+    let reach = limits.tie;
+    if reach == 0 {
         return Ok(());
     }
-    let start = is_tied_at_start(most, needles);
+    let start = is_tied(reach, thread);
     put_if(places, !start, DesignPlace::UntiedStart { piece })?;
-    let end = is_tied_at_end(most, needles);
+    let turned = backwards(alloc, thread)?;
+    let end = is_tied(reach, turned.as_slice());
     put_if(places, !end, DesignPlace::UntiedEnd { piece })?;
     Ok(())
 }
@@ -271,12 +284,17 @@ fn put_if(places: &mut DesignPlaces, test: bool, place: DesignPlace) -> Result<(
 }
 
 /// Adds the places where the design ends, or a block.
-fn put_end(places: &mut DesignPlaces, known: Known<'_>, sewn: Sewn) -> Result<(), Memory>
-    requires within { IsPieceWithin known.needles.now sewn }
+fn put_end(
+    alloc: Global,
+    places: &mut DesignPlaces,
+    known: Known<'_>,
+    sewn: Sewn,
+) -> Result<(), Memory>
+    requires within { IsPieceWithin known.threads.now sewn }
     requires few { sewn.stops ≤ MAX_COMMANDS }
     ensures { OnOk result (places.new ≡ places.old ++ end_places (known_review known.entry) sewn) }
 {
-    put_piece(places, known, sewn)?;
+    put_piece(alloc, places, known, sewn)?;
     put_block(places, known, sewn)?;
     Ok(())
 }
@@ -294,13 +312,18 @@ fn put_block(places: &mut DesignPlaces, known: Known<'_>, sewn: Sewn) -> Result<
 /// Adds the places of a stop.
 #[cold]
 #[inline(never)]
-fn put_stop(places: &mut DesignPlaces, known: Known<'_>, sewn: Sewn) -> Result<(), Memory>
-    requires within { IsPieceWithin known.needles.now sewn }
+fn put_stop(
+    alloc: Global,
+    places: &mut DesignPlaces,
+    known: Known<'_>,
+    sewn: Sewn,
+) -> Result<(), Memory>
+    requires within { IsPieceWithin known.threads.now sewn }
     requires few { sewn.stops < MAX_COMMANDS }
     ensures { OnOk result (places.new ≡ places.old ++ (end_places (known_review known.entry) sewn
         ++ frame_places (known_review known.entry) sewn)) }
 {
-    put_end(places, known, sewn)?;
+    put_end(alloc, places, known, sewn)?;
     put_frame(places, known, sewn)?;
     Ok(())
 }

@@ -6,7 +6,7 @@ pub const RUNS: &[Run] = &[
     done!("pass tied.lst" =>
         ""),
     done!("look tied.lst" =>
-        "size 60 0\norigin 0 0\nblock 1 thread 5 Red needles 9 length 140 shortest 5 longest 30\nplaces 0\n"),
+        "size 60 0\norigin 0 0\nblock 1 thread 5 Red needles 9 length 85 shortest 5 longest 30\nplaces 0\n"),
     refused!("pass short.lst tie=0" =>
         "stitch_design: short.lst: command 3: stitch of 2\n"),
     done!("pass short.lst tie=0 short=2" =>
@@ -41,7 +41,7 @@ pub const RUNS: &[Run] = &[
         "stitch_design: ended.lst: piece 1: not tied at its start\n"),
     refused!("pass wide.lst" =>
         "stitch_design: wide.lst: piece 1: not tied at its start\n"),
-    done!("pass wide.lst tie=11" =>
+    done!("pass wide.lst tie=21" =>
         ""),
     refused!("pass late.lst" =>
         "stitch_design: late.lst: piece 1: not tied at its start\n"),

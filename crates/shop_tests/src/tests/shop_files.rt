@@ -2,7 +2,7 @@
 pub const LISTS: &[(&str, &str)] = &[
     (
         "tied.lst",
-        "stitch-list 1\nlabel []\nblock 5\nneedle 0 0\nneedle 5 0\nneedle 0 0\nneedle 30 0\nneedle 60 0\nneedle 30 0\nneedle 60 0\nneedle 55 0\nneedle 60 0\ntrim\nend\n",
+        "stitch-list 1\nlabel []\nblock 5\nneedle 0 0\nneedle 5 0\nneedle 0 0\nneedle 5 0\nneedle 30 0\nneedle 60 0\nneedle 55 0\nneedle 60 0\nneedle 55 0\ntrim\nend\n",
     ),
     (
         "short.lst",
@@ -26,15 +26,15 @@ pub const LISTS: &[(&str, &str)] = &[
     ),
     (
         "begun.lst",
-        "stitch-list 1\nlabel []\nblock 5\nneedle 0 0\nneedle 10 0\nneedle 0 0\nneedle 30 0\nneedle 60 0\nneedle 90 0\nneedle 120 0\nneedle 150 0\nend\n",
+        "stitch-list 1\nlabel []\nblock 5\nneedle 0 0\nneedle 10 0\nneedle 0 0\nneedle 10 0\nneedle 30 0\nneedle 60 0\nneedle 90 0\nneedle 120 0\nneedle 150 0\nend\n",
     ),
     (
         "ended.lst",
-        "stitch-list 1\nlabel []\nblock 5\nneedle 0 0\nneedle 30 0\nneedle 60 0\nneedle 90 0\nneedle 120 0\nneedle 150 0\nneedle 160 0\nneedle 150 0\nend\n",
+        "stitch-list 1\nlabel []\nblock 5\nneedle 0 0\nneedle 30 0\nneedle 60 0\nneedle 90 0\nneedle 120 0\nneedle 150 0\nneedle 160 0\nneedle 150 0\nneedle 160 0\nend\n",
     ),
     (
         "wide.lst",
-        "stitch-list 1\nlabel []\nblock 5\nneedle 0 0\nneedle 11 0\nneedle 0 0\nend\n",
+        "stitch-list 1\nlabel []\nblock 5\nneedle 0 0\nneedle 7 0\nneedle 14 0\nneedle 21 0\nend\n",
     ),
     (
         "late.lst",

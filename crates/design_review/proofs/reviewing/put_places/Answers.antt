@@ -38,6 +38,9 @@ loop-command-preserved c =
       needles = rw c.after-sewn.ensures.value (needles_next c.args.known.needles.now now.sewn c.in-Some.act
           (acts_after c.next.new.self left)
           (subst (λ (acts : List NumberedAct). HasNeedles c.args.known.needles.now now.sewn acts) is now.invariant.needles));
+      within = rw (c.after-sewn.ensures.value, c.requires.threads) (needles_next c.args.known.needles.now now.sewn c.in-Some.act
+          (acts_after c.next.new.self left)
+          (subst (λ (acts : List NumberedAct). HasNeedles c.args.known.needles.now now.sewn acts) is now.invariant.needles)).within;
       reported = reported_after_act known reported c.in-Some.act.act;
       noted = put.noted;
       places = rw c.after-sewn.ensures.value (places_next known reported now.sewn c.in-Some.act (acts_after c.next.new.self left) _ _ _

@@ -1,4 +1,4 @@
-use Rattle.std.proofs.Common.{◌≡◌, ◌==◌, ◌++◌, List, [], IsTrue, drop}
+use Rattle.std.proofs.Common.{◌≡◌, ◌≤◌, ◌==◌, ◌++◌, List, [], IsTrue, drop, length}
 use Rattle.std.specs.HashSet.{contains}
 use Rattle.std.specs.List.{list_all}
 use Rattle.design_model.specs.declared.point.Point.{Point}
@@ -19,6 +19,7 @@ invariant-loop-command l = record {
   counted : HasSewn l.command-index l.sewn;
   in_range : IsTrue (list_all is_command_in_range (drop l.command-index l.commands));
   needles : HasNeedles l.known.needles.now l.sewn (acts_after l.scanner (drop l.command-index l.commands));
+  within : l.sewn.needles ≤ length l.known.threads.now;
   reported : List Point;
   noted : AreKeysOf reported (contains (λ a b. a == b) l.reported);
   places : l.places ++ places_from (known_review l.known) reported l.sewn (acts_after l.scanner (drop l.command-index l.commands))
