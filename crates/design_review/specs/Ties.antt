@@ -1,5 +1,6 @@
--- Ties: where an end of a thread is secured by short stitches. A thread is its needles in order, from
--- where it is loose to where it is cut. Lengths are tenths of a millimetre, compared by their squares.
+-- Ties: where an end of a thread is secured by short stitches. A thread is its needles in order,
+-- from where it is loose to where it is cut. Lengths are tenths of a millimetre, compared by their
+-- squares.
 use Rattle.std.specs.Prelude.{ℕ, ◌+◌, ◌*◌, Bool, false, not, ◌&&◌, nat_le, List, [], ◌∷◌, reverse, Option, Some, None, if◌then◌else◌}
 use Rattle.std.specs.List.{filter_map}
 use Rattle.design_model.specs.declared.act.Act.{Act}
@@ -49,8 +50,8 @@ count_tie_stitches p [] = 0
 count_tie_stitches p (q ∷ rest) =
     (if is_tie_stitch p q then 1 else 0) + count_tie_stitches q rest
 
--- The test whether a thread is tied at its start: its beginning has three stitches, in a row or not,
--- that are as long as those of a tie.
+-- The test whether a thread is tied at its start: its beginning has three stitches, in a row or
+-- not, that are as long as those of a tie.
 abbrev pub is_tied : (reach : ℕ) → List ThreadNeedle → Bool
 is_tied reach [] = false
 is_tied reach (n ∷ rest) =
