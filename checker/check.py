@@ -217,17 +217,18 @@ def read_list(data):
 # ---- The certificate. Each piece has a retraced cost, a walk, and cuts: a weight and junctions.
 AFTER = {None: [b"redwork-certificate"], b"redwork-certificate": [b"piece", b"end"], b"piece": [b"walk"],
          b"walk": [b"cut", b"piece", b"end"], b"cut": [b"cut", b"piece", b"end"], b"end": []}
-CERT_LINE = rb"redwork-certificate 1|piece (0|[1-9][0-9]{0,9})|walk( -?[1-9][0-9]{0,9})+|cut( [1-9][0-9]{0,9})+|end"
+CERT_LINE = re.compile(rb"redwork-certificate 1|piece (0|[1-9][0-9]{0,9})|walk( -?[1-9][0-9]{0,9})+|cut( [1-9][0-9]{0,9})+|end")
 
 def read_certificate(text):
     """The pieces of a certificate."""
     pieces, last, lines = [], None, text.split(b"\n")
     for at, line in enumerate(lines[:-1], 1):
         kind, *words = line.split(b" ")
-        need(kind in AFTER[last] and re.fullmatch(CERT_LINE, line), f"line {at}: not a certificate")
-        numbers, last = [int(word) for word in words], kind
-        rising = kind != b"cut" or all(a < b for a, b in zip(numbers[1:], numbers[2:]))
-        need(rising and all(abs(each) <= 4294967295 for each in numbers), f"line {at}: not a certificate")
+        fits = kind in AFTER[last] and CERT_LINE.fullmatch(line)
+        numbers, last = [int(word) for word in words] if fits else [], kind
+        fits = fits and max(map(abs, numbers), default=0) <= 4294967295
+        rises = kind != b"cut" or numbers[1:] == sorted(set(numbers[1:]))
+        if not (fits and rises): raise Refused(f"line {at}: not a certificate")
         if kind == b"piece": pieces.append((numbers[0], [], []))
         if kind == b"walk": pieces[-1][1].extend(numbers)
         if kind == b"cut": pieces[-1][2].append((numbers[0], numbers[1:]))
@@ -241,14 +242,14 @@ def judge(pieces, step, acts, certificate):
     need(counts[0] == counts[1], f"no: certificate has {counts[0]} pieces, drawing has {counts[1]}")
     for place, (piece, (retraced, walk, cuts)) in enumerate(zip(pieces, certificate), 1):
         name, costs = f"no: piece {place}", {line: cost(points, step) for line, points in piece.lines.items()}
-        path = walk_points(name, piece, walk)
+        judge_walk(name, piece, walk)
         found = sum(costs[abs(line)] for line in walk) - sum(costs.values())
         need(retraced == found, f"{name}: retraced {retraced} said, {found} found")
         judge_cuts(name, piece, costs, cuts)
         halves = sum(weight for weight, _ in cuts)
         need(halves == 2 * retraced, f"{name}: cuts give {halves} halves, needed {2 * retraced}")
         if wanted and piece.block != pieces[place - 2].block: wanted.append(("stop", None))
-        wanted += [("needle", point) for point in needle_points(path, step)] + [("trim", None)]
+        wanted += [("needle", point) for point in needle_points(walk_points(piece, walk), step)] + [("trim", None)]
     for place in range(max(len(wanted), len(acts))):
         need(wanted[place:place + 1] == acts[place:place + 1], f"no: act {place + 1} differs")
 
@@ -257,33 +258,55 @@ def ends_given(piece):
     start, end = piece.given.get(b"start"), piece.given.get(b"end")
     return start or end, end or start
 
-def walk_points(name, piece, walk):
-    """The points along a walk that fits its piece."""
-    path, (start, end) = [], ends_given(piece)
+def judge_walk(name, piece, walk):
+    """Refuses a walk that doesn't fit its piece."""
+    first, here, (start, end) = None, None, ends_given(piece)
     for place, line in enumerate(walk, 1):
-        need(abs(line) in piece.lines, f"{name}: pass {place} is not a line of the piece")
+        if abs(line) not in piece.lines: raise Refused(f"{name}: pass {place} is not a line of the piece")
+        points = piece.lines[abs(line)]
+        begin, after = (points[0], points[-1])[::1 if line > 0 else -1]
+        if here not in (None, begin): raise Refused(f"{name}: pass {place} does not start where the one before ends")
+        first, here = first or begin, after
+    need(start in (None, first), f"{name}: walk does not begin at its start")
+    need(end in (None, here), f"{name}: walk does not end at its end")
+    need(start or first == here, f"{name}: walk is not closed")
+    sewn = set(map(abs, walk))
+    for line in piece.lines: need(line in sewn, f"{name}: line {line} is not sewn")
+
+def walk_points(piece, walk):
+    """The points along a walk."""
+    path = []
+    for line in walk:
         points = piece.lines[abs(line)][::1 if line > 0 else -1]
-        need(path[-1:] in ([], points[:1]), f"{name}: pass {place} does not start where the one before ends")
         path += points[1:] if path else points
-    need(start in (None, path[0]), f"{name}: walk does not begin at its start")
-    need(end in (None, path[-1]), f"{name}: walk does not end at its end")
-    need(start or path[0] == path[-1], f"{name}: walk is not closed")
-    for line in piece.lines: need(line in walk or -line in walk, f"{name}: line {line} is not sewn")
     return path
 
 def judge_cuts(name, piece, costs, cuts):
     """Refuses a cut that isn't odd, and a line that carries more than two halves for each of its steps."""
     start, end = ends_given(piece)
-    degrees, load = Counter(ends_of(piece.lines.items())), dict.fromkeys(costs, 0)
+    degrees, leading = Counter(ends_of(piece.lines.items())), dict.fromkeys(piece.junctions, 0)
     odd = {point for point, degree in degrees.items() if degree % 2} ^ {start} ^ {end}
+    odd = {junction for junction, point in enumerate(piece.junctions, 1) if point in odd}
+    # A set of lines is a number with a bit for each. A line is in that of a junction if one end of it alone is there.
+    for place, points in enumerate(piece.lines.values()):
+        for point in (points[0], points[-1]): leading[point] ^= 1 << place
+    leading, loads = [0, *leading.values()], [0] * 64
     for place, (weight, members) in enumerate(cuts, 1):
-        for each in members: need(each <= len(piece.junctions), f"{name}: cut {place} names junction {each}")
-        held = {piece.junctions[junction - 1] for junction in members}
-        need(len(held & odd) % 2, f"{name}: cut {place} holds {len(held & odd)} odd junctions")
-        for line, points in piece.lines.items():
-            if (points[0] in held) != (points[-1] in held): load[line] += weight
-    for line, halves in load.items():
+        found, out = len(odd.intersection(members)), 0
+        for each in members:
+            if each >= len(leading): raise Refused(f"{name}: cut {place} names junction {each}")
+            out ^= leading[each]
+        if found % 2 == 0: raise Refused(f"{name}: cut {place} holds {found} odd junctions")
+        add(loads, out, weight)
+    for place, line in enumerate(piece.lines):
+        halves = sum((lines >> place & 1) << bit for bit, lines in enumerate(loads))
         need(halves <= 2 * costs[line], f"{name}: line {line} carries {halves} halves, allowed {2 * costs[line]}")
+
+def add(loads, lines, weight):
+    """Adds a weight to the loads of a set of lines, all at once: of each bit of the loads there is the set of lines that have it."""
+    for bit in range(weight.bit_length()):
+        carry = lines * (weight >> bit & 1)
+        while carry: loads[bit], carry, bit = loads[bit] ^ carry, loads[bit] & carry, bit + 1
 
 # ---- The program.
 READERS = {"dst": read_dst, "exp": read_exp, "pec": read_pec, "lst": read_list}
@@ -300,7 +323,8 @@ def read(name, reader):
 def run(words):
     """The exit status and the line for a drawing, a design and a certificate, read in this order."""
     ending = words[1].rpartition(".")[2].lower() if len(words) == 3 and "." in words[1] else None
-    if ending not in READERS: return 2, "usage: check.py DRAWING FILE CERT"
+    fit = all(1 <= len(word.encode(errors="surrogateescape")) <= 4096 for word in words)
+    if ending not in READERS or not fit: return 2, "usage: check.py DRAWING FILE CERT"
     try:
         pieces, step = read(words[0], read_drawing)
         acts = read(words[1], lambda data: read_acts(READERS[ending](data)))
