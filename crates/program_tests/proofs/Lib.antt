@@ -1,0 +1,3 @@
+mod TwoBlocks
+mod TwoBlocksFacts
+mod TwoBlocksRun
