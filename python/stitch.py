@@ -215,7 +215,7 @@ def cross(drawing: bytes, keep: bool = False) -> bytes:
 
 
 def space(drawing: bytes, length: Optional[int] = None, leeway: Optional[int] = None) -> bytes:
-    """Returns a drawing without the points for which one stitch stands: the fewest stitches, and of these the most even.
+    """Returns a drawing without points for which one stitch stands: of all ways one with the fewest stitches, and of these the most even.
     `length`, the longest stitch, and `leeway` are tenths of a millimetre."""
     limits = [f"{key}={limit}" for key, limit in (("length", length), ("leeway", leeway)) if limit is not None]
     return _done("stitch_drawing", ["space", "in.rw", "out.rw", *limits], {"in.rw": drawing}).files["out.rw"]
