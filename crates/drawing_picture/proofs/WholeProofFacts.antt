@@ -35,10 +35,11 @@ abbrev top : List ℕ
 top = codes "<svg xmlns='http://www.w3.org/2000/svg' width='100.0mm' height='30.0mm' viewBox='0,0,680,478'>"
     ++ (10 ∷ codes "<path fill='#d9d1be' d='M0,0h680v478h-680z'/>" ++ (10 ∷ style_text
     ++ (codes "<title>Embroidery I</title>"
-    ++ (10 ∷ codes "<desc>No thread over a piece has fewer stitches than the one that is shown: the bands of the cuts prove it. "
+    ++ (10 ∷ codes "<desc>No thread over a piece with these ends has fewer stitches than the one that is shown: "
+    ++ (codes "the bands of the cuts prove it. "
     ++ (codes "Each thread is sewn from its triangle to its square, along the arrows, and what is sewn again is drawn in "
     ++ (codes "dashes beside the first.</desc>"
-    ++ (10 ∷ codes "<g transform='translate(60,60)'>" ++ 10 ∷ [])))))))
+    ++ (10 ∷ codes "<g transform='translate(60,60)'>" ++ 10 ∷ []))))))))
 
 -- Bands are in half tenths of a millimetre, below the thread. Above it is what is sewn again, orange on blue, then holes, arrows and
 -- marks.
@@ -65,7 +66,7 @@ below = codes "<g transform='translate(0,0) translate(0,60)'>"
 -- The reason is 17 mm and a line of 2.8 mm below, and its last line has the steps.
 abbrev reason : List ℕ
 reason = codes "<g transform='translate(0,198)'>"
-    ++ (10 ∷ codes "<text y='24'>No thread over a piece has fewer stitches.</text>"
+    ++ (10 ∷ codes "<text y='24'>No thread with these ends has fewer stitches.</text>"
     ++ (10 ∷ codes "<text class='small' y='46'>Dashes: what is sewn again. Bands of one colour: a cut, round the</text>"
     ++ (10 ∷ codes "<text class='small' y='68'>junctions that it holds, as wide as its weight. An odd number of lines</text>"
     ++ (10 ∷ codes "<text class='small' y='90'>leads out of each cut (a given end's way back to the start is one), so</text>"

@@ -34,7 +34,7 @@ retraced_steps certs = sum_by (λ (cert : PieceCert). cert.retraced) certs
 
 -- What the picture of a proof shows, in words.
 abbrev pub proof_words : List ℕ
-proof_words = codes "No thread over a piece has fewer stitches than the one that is shown: the"
+proof_words = codes "No thread over a piece with these ends has fewer stitches than the one that is shown: the"
     ++ (codes " bands of the cuts prove it. Each thread is sewn from its triangle to its square,"
     ++ codes " along the arrows, and what is sewn again is drawn in dashes beside the first.")
 
@@ -44,7 +44,7 @@ proof_top design area = top_text area design.label proof_words
 
 -- The lines that say that no thread has fewer stitches, and why, without the last line.
 abbrev pub reason_text : List ℕ
-reason_text = codes "<text y='24'>No thread over a piece has fewer stitches.</text>"
+reason_text = codes "<text y='24'>No thread with these ends has fewer stitches.</text>"
     ++ (10 ∷ codes "<text class='small' y='46'>Dashes: what is sewn again. Bands of one colour:"
     ++ (codes " a cut, round the</text>"
     ++ (10 ∷ codes "<text class='small' y='68'>junctions that it holds, as wide as its weight. An"

@@ -9,10 +9,10 @@ use picture_parts::{Part, put};
 
 /// What the picture of a proof shows.
 pub(crate) const PROOF_WORDS: &[u8] =
-    b"No thread over a piece has fewer stitches than the one that is shown: the bands of the cuts prove it. Each thread is sewn from its triangle to its square, along the arrows, and what is sewn again is drawn in dashes beside the first.";
+    b"No thread over a piece with these ends has fewer stitches than the one that is shown: the bands of the cuts prove it. Each thread is sewn from its triangle to its square, along the arrows, and what is sewn again is drawn in dashes beside the first.";
 
 /// That no thread has fewer stitches, and why, without the last line.
-const REASON: &[u8] = b"<text y='24'>No thread over a piece has fewer stitches.</text>\n\
+const REASON: &[u8] = b"<text y='24'>No thread with these ends has fewer stitches.</text>\n\
 <text class='small' y='46'>Dashes: what is sewn again. Bands of one colour: a cut, round the</text>\n\
 <text class='small' y='68'>junctions that it holds, as wide as its weight. An odd number of lines</text>\n\
 <text class='small' y='90'>leads out of each cut (a given end's way back to the start is one), so</text>\n\

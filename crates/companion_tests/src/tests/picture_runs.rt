@@ -213,7 +213,7 @@ static PICTURES: &[DrawnCase] = &[
         &[
             b"<g transform='scale(.5)'>\n<path class='band' stroke='#1b9e77' d='M0,0 10,0 20,0 30,0 40,0 '/>\n</g>\n",
             b"<path class='again' stroke='#1d3bd1' d='\nM20,0A5,5,0,0,1,10,0\nM10,0A5,5,0,0,1,0,0'/>\n",
-            b"<text y='24'>No thread over a piece has fewer stitches.</text>\n",
+            b"<text y='24'>No thread with these ends has fewer stitches.</text>\n",
             b"what is sewn again: steps 2.</text>\n",
         ],
     ),
