@@ -103,7 +103,7 @@ def test_unknown_files(page):
     page.js("""const given = new DataTransfer(); given.items.add(new File([new Uint8Array(3e7)], 'large.xyz'));
         given.items.add(new File([new Uint8Array(3e7)], 'large.rw')); given.items.add(new File([new Uint8Array(3e7)], 'large.svg'));
         window.reads = 0; document.querySelector('main').dispatchEvent(new DragEvent('drop', { dataTransfer: given, bubbles: true, cancelable: true }));""")
-    page.until(lambda: sum("large." in line for line in page.says(".refused")) == 3, 5)
+    page.until(lambda: sum("large." in line for line in page.says(".refused")) == 3, 30)
     equal("what is read of 30 MB", 0, page.js("return window.reads"))
     page.view("Drawing")
     equal("the drawing", words, page.typed())
@@ -247,11 +247,10 @@ def test_finish(page):
     page.click("Save short-picture.svg")
     equal("the picture of the tied design", picture, page.saved_file("short-picture.svg"))
     equal("the picture that is shown", picture.decode(), shown_picture(page))
-    needles = native("stitch", ["show", "a.pes"], {"a.pes": machine})[1]
+    acts = native("stitch", ["convert", "a.pes", "a.lst"], {"a.pes": machine})[3]["a.lst"].decode()
     page.view("Play")
-    commands = re.search(r"commands (\d+)", needles)[1]
-    equal("the acts that are played", True, int(page.js("return document.querySelector('#view-play input[type=range]').max")) <= int(commands))
-    equal("ties are played", True, int(page.js("return document.querySelector('#view-play input[type=range]').max")) > 10)
+    equal("the acts of the tied design are played", len(re.findall("^(?:needle|float|trim)", acts, re.M)),
+          int(page.js("return document.querySelector('#view-play input[type=range]').max")))
 
 
 def shown_picture(page):
@@ -426,7 +425,7 @@ def test_play(page):
             page.press(key)
             equal(f"key {key!r} in {focus}", wanted, now())
         page.press(" ")
-        page.until(lambda: now() > 3, 10)
+        page.until(lambda: now() > 3)
         page.press(" ")
         page.until(lambda: "Play" in page.says("#view-play button.primary"))
         stopped = now()
@@ -435,7 +434,7 @@ def test_play(page):
         page.press("\ue011")
     page.click("One on")
     page.press(" ")
-    page.until(lambda: now() > 3, 10)
+    page.until(lambda: now() > 3)
     page.press(" ")
     page.press("\ue010")
     page.until(lambda: now() == last)
@@ -446,7 +445,7 @@ def test_play(page):
     whole = page.js(dark)
     page.press("\ue011")
     page.press(" ")
-    page.until(lambda: now() >= last // 2, 60)
+    page.until(lambda: now() >= last // 2)
     page.press(" ")
     if not page.js(dark) > whole // 4:
         wrong("needle points while it runs", f"about half of {whole}", page.js(dark))
@@ -472,15 +471,19 @@ def test_words(page):
 
 
 def test_stopped(page):
-    """A topic whose run was stopped says so, and is asked for again."""
-    page.drop(examples("rose.rw"))
-    lines = "".join(f"line {100 * i} {100 * j} {100 * i + 100} {100 * j + (i * j) % 40} \n" for i in range(30) for j in range(30))
-    page.js("""const area = document.querySelector('textarea'); area.value = arguments[0];
-        area.dispatchEvent(new Event('input', { bubbles: true }));""", "redwork 2\nstep 1\ncolor 1\n" + lines)
-    time.sleep(0.6)
+    """A run that is stopped says so, nothing runs on, and it can be tried again."""
+    shifts = [(37 * k * k + 11 * k) % 90 for k in range(2000)]
+    lines = "".join(f"line {100 * i} {100 * j} {100 * i + 100} {100 * j}\nline {100 * i} {100 * j} {100 * i + shifts[i * j]} {100 * j + 100}\n"
+                    for i in range(20) for j in range(20))
+    page.drop({"many.rw": ("redwork 2\nstep 1\ncolor 1\n" + lines).encode()})
+    page.click("Design", "[role=tab]")
+    page.click("Stop")
+    page.until(lambda: "Try again" in page.says("footer button"))
     page.settle()
-    page.view("Design")
-    equal("it answers", True, bool(page.says(".count strong") or page.says(".refused")))
+    equal("it says so", True, any("stopped" in line for line in page.says("#view-design .refused")))
+    page.click("Try again")
+    page.settle()
+    equal("it is done then", True, bool(page.says(".count strong")))
 
 
 # Widths, and how large letters are: 200 of a hundred is half the width at twice the pixels.
