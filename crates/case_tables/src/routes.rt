@@ -1,4 +1,4 @@
-use crate::commands::TO_DST;
+use crate::commands::{OF_DST, TO_DST};
 use crate::{Case, FileContent, case, done, drawn, records, refused, with_bytes};
 
 /// A square of 30 from the origin to the right and downwards.
@@ -60,12 +60,17 @@ pub static CLOSED: &[Case] = &[
     drawn!(SQUARE;
         done!(TO_DST => SQUARE_REPORT,
             &[("b.dst", records!(&SQUARE_RECORDS)), with_bytes!("b.cert" => SQUARE_CERT)]),
+        done!(OF_DST => "yes\n"),
+        // After its fields a header has spaces.
         done!(TO_DST => SQUARE_REPORT, &[("b.dst", FileContent::PartAt(539, 0, SQUARE_FIELDS))]),
+        done!(TO_DST => SQUARE_REPORT, &[("b.dst", FileContent::PartAt(539, 128, &[b' '; 384]))]),
         done!(TO_EXP => SQUARE_REPORT, &[with_bytes!("b.exp" => &SQUARE_UNITS)]),
         // One block, and its thread.
         done!(TO_PEC => SQUARE_REPORT, &[("b.pec", FileContent::PartAt(1_007, 56, &[0x00, 0x05]))]),
         done!(TO_PEC => SQUARE_REPORT,
-            &[("b.pec", FileContent::PartAt(1_007, 522, &SQUARE_BLOCK))])),
+            &[("b.pec", FileContent::PartAt(1_007, 522, &SQUARE_BLOCK))]),
+        done!("route a.rw b.pes b.cert" => SQUARE_REPORT,
+            &[("b.pes", FileContent::PartAt(1_021, 0, b"#PES0001\x16\x00\x00\x00"))])),
     drawn!(TWO_SQUARES;
         done!(TO_DST => TWO_REPORT,
             &[("b.dst", records!(&TWO_SQUARES_RECORDS)), with_bytes!("b.cert" => TWO_CERT)]),
