@@ -1,6 +1,6 @@
 use super::comparisons::compare_row;
 use super::drawings::has_squares;
-use design_model::{Bytes, MAX_FILE, Memory};
+use design_model::{Bytes, MAX_FILE, Memory, put_decimal};
 use drawing_text::{DrawFault, print_drawing, read_drawing, read_lines, read_with_lines};
 use line_graph::DrawKind::{
     self, BadHeader, BadNumber, BadWord, EmptyBlock, FewPoints, NoBlock, OutOfRange, RepeatedPoint,
@@ -199,6 +199,39 @@ fn a_drawing_has_so_many_blocks_lines_points_and_steps(rt: HostRuntime) {
         let is = is_at_limit(rt.alloc(), case);
         compare_row(&rt, (case.0, case.1, case.2), is.ok(), Some(true));
     }
+}
+
+/// Adds to a drawing text a line through places that are a tenth of a millimetre apart.
+fn add_line(text: &mut Bytes, segments: u32) -> Result<(), Memory> {
+    text.append(b"line 0 0")?;
+    for x in 0..segments {
+        text.append(b" ")?;
+        put_decimal(text, x.saturating_add(1))?;
+        text.append(b" 0")?;
+    }
+    text.append(b"\n")
+}
+
+/// Returns the first fault of a text of version 2 that has a line of so many segments twice. Each is a section.
+fn fault_of_sections(alloc: Global, segments: u32) -> Result<(u32, Option<DrawKind>), Memory> {
+    let mut text = Bytes::new(alloc);
+    text.append(b"redwork 2\ncolor 1\n")?;
+    add_line(&mut text, segments)?;
+    add_line(&mut text, segments)?;
+    Ok(fault(alloc, text.as_slice()))
+}
+
+#[test]
+fn sections_are_counted_after_the_last_line(rt: HostRuntime) {
+    let most = fault_of_sections(rt.alloc(), 512);
+    compare_row(&rt, "1,024 sections", most.ok() == Some((0, None)), true);
+    let more = fault_of_sections(rt.alloc(), 600);
+    compare_row(
+        &rt,
+        "1,200 sections",
+        more.ok() == Some((5, Some(TooManyLines))),
+        true,
+    );
 }
 
 /// Returns whether a text of nearly the greatest length is read.
