@@ -29,4 +29,5 @@ mod terminal_state;
 pub use lifting::lift;
 pub use odd_cuts::{
     Cert, Cut, CutFault, Cuts, PieceCert, PieceCerts, WalkFault, check_cuts, check_walk,
+    packings_bound_walks, packings_prove_least,
 };

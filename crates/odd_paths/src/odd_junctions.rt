@@ -3,17 +3,20 @@ ghost use Rattle.line_graph.specs.PiecesOfDrawings.{graph_of};
 ghost use Rattle.line_graph.specs.declared.limits.TheConstants.{MAX_LINES};
 ghost use Rattle.odd_paths.specs.OddDegrees.{odds_from, singleton_if};
 ghost use Rattle.odd_paths.specs.OddJunctions.{OddsAreEven};
-ghost use Rattle.std.specs.Prelude.{◌≡◌, ◌+◌, ◌++◌, ◌≤◌, IfOk, OnOk, length};
+ghost use Rattle.std.specs.Prelude.{◌≡◌, ◌+◌, ◌++◌, ◌%◌, ◌≤◌, IfOk, OnOk, length};
 
 use design_model::{Memory, Numbers};
 use line_graph::{Piece, is_odd_at};
 use std::alloc::Global;
 
-/// Returns the indexes of the odd junctions of a piece, in rising order. The only error is out of memory.
+/// Returns the indexes of the odd junctions of a piece, in rising order. Their number is even. The only error is
+/// out of memory.
 pub fn odd(alloc: Global, p: &Piece) -> Result<Numbers, Memory>
-    ensures { IfOk result (λ odds. odds ≡ odd_junctions (graph_of p.now)) }
+    ensures value { IfOk result (λ odds. odds ≡ odd_junctions (graph_of p.now)) }
+    ensures even { IfOk result (λ odds. length odds % 2 ≡ 0) }
 {
-    odds_in(alloc, p.degrees.as_slice(), p.from(), p.to())
+    let odds = odds_in(alloc, p.degrees.as_slice(), p.from(), p.to())?;
+    Ok(odds)
 }
 
 /// The number of odd junctions of a piece is even.

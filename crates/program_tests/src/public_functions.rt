@@ -2,7 +2,9 @@
 
 pub use blossom_match::match_all;
 pub use certificate_text::{print_cert, read_cert};
-pub use cut_certificate::{check_cuts, check_walk, lift};
+pub use cut_certificate::{
+    check_cuts, check_walk, lift, packings_bound_walks, packings_prove_least,
+};
 pub use design_edits::{mirror, recolour, shift, turn};
 pub use design_model::{acts, counts, extent, parse_whole};
 pub use double_run::double;

@@ -4,5 +4,5 @@ use Rattle.free_ends.proofs.end_choice.best_ends.Goals as goal
 
 pub rows-requires : goal.rows-requires
 rows-requires c =
-    subst (λ (ts : List ℕ). AreTerminals (graph_of c.args.p.now) ts) (sym (c.as_slice.ensures ∙ c.in_ok-odds.ensures))
+    subst (λ (ts : List ℕ). AreTerminals (graph_of c.args.p.now) ts) (sym (c.as_slice.ensures ∙ c.in_ok-odds.ensures.value))
     (odds_are_terminals (graph_of c.args.p.now))

@@ -5,17 +5,16 @@ use Rattle.route_core.proofs.piece_route.route_piece.Goals as goal
 
 pub rows-requires : goal.rows-requires
 rows-requires c =
-    subst (λ (ts : List ℕ). AreTerminals (graph_of c.args.p.now) ts) (sym (c.as_slice.ensures ∙ c.in_ok-odds.ensures))
+    subst (λ (ts : List ℕ). AreTerminals (graph_of c.args.p.now) ts) (sym (c.as_slice.ensures ∙ c.in_ok-odds.ensures.value))
     (odds_are_terminals (graph_of c.args.p.now))
 
 pub match_odds-requires-clause-even : goal.match_odds-requires-clause-even
 match_odds-requires-clause-even c =
-    subst (λ (ts : List ℕ). length ts % 2 ≡ 0) (sym (c.as_slice-2.ensures ∙ c.in_ok-odds.ensures))
-    (c.odds_are_even.ensures (graph_of c.args.p.now) c.args.p.now.kept).0
+    subst (λ (ts : List ℕ). length ts % 2 ≡ 0) (sym c.as_slice-2.ensures) c.in_ok-odds.ensures.even
 
 pub match_odds-requires-clause-few : goal.match_odds-requires-clause-few
 match_odds-requires-clause-few c =
-    subst (λ (ts : List ℕ). length ts ≤ MAX_LINES) (sym (c.as_slice-2.ensures ∙ c.in_ok-odds.ensures))
+    subst (λ (ts : List ℕ). length ts ≤ MAX_LINES) (sym (c.as_slice-2.ensures ∙ c.in_ok-odds.ensures.value))
     (c.odds_are_even.ensures (graph_of c.args.p.now) c.args.p.now.kept).1
 
 pub walk_by-requires-clause-few : goal.walk_by-requires-clause-few
