@@ -3,10 +3,12 @@ ghost use Rattle.std.specs.Prelude.{◌+◌, ◌≤◌, IfOk, OnOk, length};
 
 use super::cert_parts::{members_of, pass_of};
 use super::comparisons::compare_row;
-use super::routes::drawing_of;
+use super::routes::{drawing_of, numbers_of};
 use design_model::Memory;
-use line_graph::{Pass, Piece, Pieces, pieces};
+use drawing_tests::points_of;
+use line_graph::{DrawKind, Drawing, DrawingMaker, Pass, Piece, Pieces, pieces};
 use odd_cuts::{Cut, CutFault, Cuts, WalkFault, check_cuts, check_walk};
+use route_core::route;
 use std::alloc::Global;
 use std::process::Abort;
 use std::test::Fail;
@@ -34,6 +36,15 @@ line 0 0 0 30
 line 30 0 30 30
 line 30 0 0 30
 line 30 30 0 30
+";
+
+/// Two loops at the ends of a line.
+const LOOPS: &str = "redwork 3
+step 10
+color 1
+line 0 0 -10 10 -10 -10 0 0
+line 0 0 30 0
+line 30 0 40 10 40 -10 30 0
 ";
 
 /// Returns the pieces of the drawing of a text and a few more lines.
@@ -262,6 +273,12 @@ const OPEN: [CutRow; 2] = [
     ([(6, [4, 0, 0]), NONE, NONE, NONE], even!(1, 0)),
 ];
 
+/// A cut around either end of the line between two loops.
+const BRIDGE: [CutRow; 2] = [
+    ([(6, [1, 0, 0]), NONE, NONE, NONE], Ok(())),
+    ([(6, [2, 0, 0]), NONE, NONE, NONE], Ok(())),
+];
+
 /// Cuts around the junctions of the complete drawing.
 const HALVES: [CutRow; 2] = [
     (
@@ -310,4 +327,108 @@ fn start_and_end_are_odd_no_more(rt: HostRuntime) -> Result<(), Fail> {
 #[test]
 fn halves_at_four_junctions_are_a_packing(rt: HostRuntime) -> Result<(), Fail> {
     compare_cuts(&rt, rt.alloc(), (COMPLETE, ""), 2, &HALVES)
+}
+
+#[test]
+fn a_line_between_two_loops_has_a_cut(rt: HostRuntime) -> Result<(), Fail> {
+    compare_cuts(&rt, rt.alloc(), (LOOPS, ""), 3, &BRIDGE)
+}
+
+/// The sets of junctions of the complete drawing with an odd number of them.
+const ODD_SETS: [[u8; 3]; 8] = [
+    [1, 0, 0],
+    [2, 0, 0],
+    [3, 0, 0],
+    [4, 0, 0],
+    [1, 2, 3],
+    [1, 2, 4],
+    [1, 3, 4],
+    [2, 3, 4],
+];
+
+/// Compares whether two cuts of weight 2, or one of weight 4, overload a line of the complete drawing. Four halves are needed,
+/// and no other even weights sum to four.
+fn compare_even_cuts(rt: &impl Abort, alloc: Global, p: &Piece, one: [u8; 3]) -> Result<(), Fail> {
+    for other in &ODD_SETS {
+        let two = said(alloc, p, 2, [(2, one), (2, *other), NONE, NONE])?;
+        let is = matches!(two, Err(CutFault::Overload { .. }));
+        compare_row(rt, (one, *other), is, true);
+    }
+    let heavy = said(alloc, p, 2, [(4, one), NONE, NONE, NONE])?;
+    compare_row(
+        rt,
+        one,
+        matches!(heavy, Err(CutFault::Overload { .. })),
+        true,
+    );
+    Ok(())
+}
+
+#[test]
+fn no_packing_with_even_weights_reaches_four(rt: HostRuntime) -> Result<(), Fail> {
+    let pieces = pieces_of(rt.alloc(), COMPLETE, "")?;
+    for one in &ODD_SETS {
+        compare_even_cuts(&rt, rt.alloc(), first_of(&pieces)?, *one)?;
+    }
+    Ok(())
+}
+
+/// The outer junctions of a star of forty strokes, by number.
+const OUTER: [u8; 40] = [
+    2, 3, 4, 5, 6, 7, 8, 9, 10, 11, 12, 13, 14, 15, 16, 17, 18, 19, 20, 21, 22, 23, 24, 25, 26, 27,
+    28, 29, 30, 31, 32, 33, 34, 35, 36, 37, 38, 39, 40, 41,
+];
+
+/// Returns a cut of that weight around each of the junctions.
+fn single_cuts(alloc: Global, weight: u32, numbers: &[u8]) -> Result<Cuts, Memory>
+    ensures numbered { IfOk result HaveNumberedMembers }
+    ensures few { IfOk result (λ cuts. length cuts ≤ length numbers.now) }
+{
+    let mut cuts = Cuts::new(alloc);
+    for number in numbers {
+        add_cut(alloc, &mut cuts, weight, &[*number])?;
+    }
+    Ok(cuts)
+}
+
+/// Returns the drawing of forty strokes of one step, from one junction to places that are a tenth of a millimetre apart.
+fn star(alloc: Global) -> Result<Drawing, DrawKind> {
+    let mut maker = DrawingMaker::new(alloc, b"", 25);
+    maker.add_block(1)?;
+    for y in -20..20 {
+        maker.add_line(points_of(alloc, &[(0, 0), (25, y)])?)?;
+    }
+    maker.finish()
+}
+
+/// Weights of the cuts around the forty outer junctions, and the result of their check.
+const FORTY: [(u32, Result<(), CutFault>); 3] = [
+    (2, Ok(())),
+    (3, overload!(1, 3, 2)),
+    (
+        1,
+        Err(CutFault::Total {
+            sum: 40,
+            needed: 80,
+        }),
+    ),
+];
+
+/// Compares the result of the check of forty cuts of a star with the expected one, for each weight.
+fn compare_star(rt: &impl Abort, alloc: Global, p: &Piece) -> Result<(), Fail> {
+    for (weight, wanted) in &FORTY {
+        let cuts = single_cuts(alloc, *weight, &OUTER)?;
+        compare_row(rt, *weight, check_cuts(p, 40, &cuts), *wanted);
+    }
+    Ok(())
+}
+
+#[test]
+fn forty_cuts_of_a_star_are_a_packing(rt: HostRuntime) -> Result<(), Fail> {
+    let star = star(rt.alloc()).ok().ok_or("no drawing")?;
+    compare_star(&rt, rt.alloc(), first_of(&pieces(rt.alloc(), &star)?)?)?;
+    let routed = route(rt.alloc(), &star)?;
+    let cert = routed.cert.pieces.as_slice().first().ok_or("no piece")?;
+    compare_row(&rt, "forty strokes", numbers_of(cert), (80, 40, 80));
+    Ok(())
 }

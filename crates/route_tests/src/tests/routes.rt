@@ -11,7 +11,7 @@ use test_values::repeated;
 
 /// A piece of a route: the number of its passes, the cost that they retrace, and the total weight of its cuts
 /// in half steps.
-type RoutedPiece = (usize, u32, u32);
+pub type RoutedPiece = (usize, u32, u32);
 
 /// The lines of a drawing, the needle penetrations of its route, and the pieces of the route.
 macro_rules! routed {
@@ -47,7 +47,7 @@ pub fn drawing_of(alloc: Global, first: &str, last: &str) -> Result<Drawing, Fai
 }
 
 /// Returns what the table has of a piece.
-fn numbers_of(cert: &PieceCert) -> RoutedPiece {
+pub fn numbers_of(cert: &PieceCert) -> RoutedPiece {
     let mut total: u32 = 0;
     for cut in cert.cuts.as_slice() {
         total = total.saturating_add(cut.weight);
