@@ -1,7 +1,6 @@
 -- What valid requests and edits exclude, and their values.
-use Rattle.std.proofs.Common.{◌≡◌, pos, negsuc, true, false, [], ◌∷◌, length, map, string_bytes, unwrap_or, ap, refl, sym, arith, true≢false}
+use Rattle.std.proofs.Common.{◌≡◌, pos, negsuc, true, false, [], ◌∷◌, length, map, string_bytes, ap, refl, sym, arith, true≢false}
 use Rattle.std.specs.Prelude.{codes}
-use Rattle.command_words.specs.Arguments.{parsed_edits}
 use Rattle.command_words.specs.Changes.{move, thread}
 use Rattle.command_words.specs.Edits.{IsEditInBounds, change_of_edit}
 use Rattle.command_words.specs.Requests.{check, convert, double, edit, hoop, migrate, route, sample, show, trace}
@@ -52,7 +51,7 @@ pub known_requests : (a b c : _) → (request_value (request.Route a b c) ≡ ro
 known_requests a b c = (refl, refl, refl, refl, refl, refl, refl, refl, refl)
 
 pub known_edit_request : (a b : _) (edits : _) → request_value (request.Edit a b edits)
-    ≡ edit a.now b.now (unwrap_or (parsed_edits (map (λ word. string_bytes word) edits.now)) [])
+    ≡ edit a.now b.now (map (λ word. string_bytes word) edits.now)
 known_edit_request a b edits = refl
 
 -- arguments of which one is no edit aren't edits

@@ -111,7 +111,10 @@ pub known_requests : (parsed_request (codes "convert" ∷ codes "a.dst" ∷ []) 
     × (parsed_request (codes "show" ∷ codes "a.dst" ∷ codes "b.dst" ∷ []) ≡ None)
     -- `edit` has two names and one edit or more
     × (parsed_request (codes "edit" ∷ codes "a.dst" ∷ codes "b.exp" ∷ codes "turn=1" ∷ codes "thread=1,20" ∷ [])
-    ≡ Some (edit (codes "a.dst") (codes "b.exp") (move (motion.Turn 1) ∷ thread 1 20 ∷ [])))
+    ≡ Some (edit (codes "a.dst") (codes "b.exp") (codes "turn=1" ∷ codes "thread=1,20" ∷ [])))
+    -- each edit as it is written
+    × (parsed_request (codes "edit" ∷ codes "a.dst" ∷ codes "b.exp" ∷ codes "turn=01" ∷ [])
+    ≡ Some (edit (codes "a.dst") (codes "b.exp") (codes "turn=01" ∷ [])))
     × (parsed_request (codes "edit" ∷ codes "a.dst" ∷ codes "b.exp" ∷ []) ≡ None)
     × (parsed_request (codes "edit" ∷ codes "a.dst" ∷ codes "b.exp" ∷ codes "turn=1" ∷ codes "c.pes" ∷ []) ≡ None)
     -- `hoop` has a name, a width and a height
@@ -130,7 +133,8 @@ pub known_requests : (parsed_request (codes "convert" ∷ codes "a.dst" ∷ []) 
     × (parsed_request (codes "check" ∷ codes "a" ∷ codes "b" ∷ codes "c" ∷ codes "d" ∷ []) ≡ None)
     -- a sample has a number from 1 to 999,999, which may have zeros in front
     × (parsed_request (codes "sample" ∷ codes "0075" ∷ codes "s.rw" ∷ []) ≡ Some (sample 75 (codes "s.rw")))
-known_requests = (refl, refl, refl, refl, refl, refl, refl, refl, refl, refl, refl, refl, refl, refl, refl, refl, refl, refl)
+known_requests =
+    (refl, refl, refl, refl, refl, refl, refl, refl, refl, refl, refl, refl, refl, refl, refl, refl, refl, refl, refl)
 
 pub known_sample_number : (sample_number (codes "999999") ≡ Some 999999)
     × (sample_number (codes "1000000") ≡ None)

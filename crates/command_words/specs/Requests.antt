@@ -1,17 +1,16 @@
 -- The requests that the arguments of the program represent. A name is the bytes of an argument.
-use Rattle.std.specs.Prelude.{ℕ, Bool, List, [], ◌∷◌, Option, Some, None, bytes_eq, codes, option_map, if◌then◌else◌}
-use Rattle.command_words.specs.Changes.{Change}
+use Rattle.std.specs.Prelude.{ℕ, Bool, List, [], ◌∷◌, Option, Some, None, bytes_eq, codes, is_some, option_map, if◌then◌else◌}
 use Rattle.command_words.specs.Names.{if_named, names_and_rest, one_name, three_names, three_words, two_names}
 use Rattle.command_words.specs.Arguments.{parsed_edits, sample_number, hoop_side}
 use Rattle.command_words.specs.RefitFlags.{parsed_refits}
 
--- A request, with a case for each command.
+-- A request, with a case for each command. Edits are the bytes of their arguments.
 pub data RequestValue : Type 0 where
   route : (drawing out cert : List ℕ) → RequestValue
   check : (drawing file cert : List ℕ) → RequestValue
   convert : (input output : List ℕ) → (splits cuts : Bool) → RequestValue
   show : (file : List ℕ) → RequestValue
-  edit : (input output : List ℕ) → (edits : List Change) → RequestValue
+  edit : (input output : List ℕ) → (edits : List (List ℕ)) → RequestValue
   hoop : (file : List ℕ) → (width height : ℕ) → RequestValue
   sample : (number : ℕ) → (drawing : List ℕ) → RequestValue
   migrate : (input output : List ℕ) → RequestValue
@@ -27,7 +26,8 @@ parsed_convert None = None
 -- The request to edit one file into another, by two names and one or more edits.
 abbrev pub parsed_edit_request : Option (List ℕ × List ℕ × List (List ℕ)) → Option RequestValue
 parsed_edit_request (Some (input, output, first ∷ later)) =
-    option_map (edit input output) (parsed_edits (first ∷ later))
+    if is_some (parsed_edits (first ∷ later))
+    then Some (edit input output (first ∷ later)) else None
 parsed_edit_request (Some (input, output, [])) = None
 parsed_edit_request None = None
 

@@ -1,5 +1,5 @@
 -- The requests of the program as values, and the conditions that their arguments satisfy.
-use Rattle.std.specs.Prelude.{ℕ, ◌≤◌, List, [], map, IsSome, string_bytes, unwrap_or}
+use Rattle.std.specs.Prelude.{ℕ, ◌≤◌, List, map, IsSome, string_bytes}
 use Rattle.outside_io.specs.Files.{IsFileName}
 use Rattle.command_words.specs.declared.request_words.TheConstants.{MAX_SAMPLE}
 use Rattle.command_words.specs.declared.requests.Request.{Request}
@@ -7,14 +7,14 @@ use Rattle.command_words.specs.declared.requests.Request.TheVariants as request
 use Rattle.command_words.specs.Requests.{RequestValue, check, convert, double, edit, hoop, migrate, route, sample, show, trace}
 use Rattle.command_words.specs.Arguments.{parsed_edits}
 
--- The value of a request. Arguments that are not all edits count as no edits.
+-- The value of a request: names and edits as bytes.
 abbrev pub request_value : Request → RequestValue
 request_value (request.Route drawing out cert) = route drawing.now out.now cert.now
 request_value (request.Check drawing file cert) = check drawing.now file.now cert.now
 request_value (request.Convert input output splits cuts) = convert input.now output.now splits cuts
 request_value (request.Show file) = show file.now
 request_value (request.Edit input output edits) = edit input.now output.now
-    (unwrap_or (parsed_edits (map (λ word. string_bytes word) edits.now)) [])
+    (map (λ word. string_bytes word) edits.now)
 request_value (request.Hoop file w h) = hoop file.now w h
 request_value (request.Sample n drawing) = sample n drawing.now
 request_value (request.Migrate input output) = migrate input.now output.now

@@ -1,5 +1,6 @@
 -- The commands: the order that the arguments request, its plan, and the files that it writes.
-use Rattle.std.specs.Prelude.{ℕ, List, [], ◌∷◌, Option, Some, None, codes, option_map}
+use Rattle.std.specs.Prelude.{ℕ, List, [], ◌∷◌, Option, Some, None, codes, option_map, unwrap_or}
+use Rattle.command_words.specs.Arguments.{parsed_edits}
 use Rattle.command_words.specs.RefitFlags.{refit_changes}
 use Rattle.command_words.specs.Requests.{RequestValue, parsed_request, check, convert, double, edit, hoop, migrate, route, sample, show, trace}
 use Rattle.format_traits.specs.Endings.{format_of}
@@ -51,7 +52,8 @@ complete_request formats (Some (convert input output splits cuts)) = option_map 
     (complete_rewrite input output (refit_changes splits cuts) (format_of formats input)
     (format_of formats output))
 complete_request formats (Some (edit input output edits)) = option_map (λ o. rewriting o)
-    (complete_rewrite input output edits (format_of formats input) (format_of formats output))
+    (complete_rewrite input output (unwrap_or (parsed_edits edits) []) (format_of formats input)
+    (format_of formats output))
 complete_request formats (Some (show file)) =
     option_map (λ o. showing o) (complete_show file (format_of formats file))
 complete_request formats (Some (hoop file width height)) =
