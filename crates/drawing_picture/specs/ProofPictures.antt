@@ -36,7 +36,8 @@ retraced_steps certs = sum_by (λ (cert : PieceCert). cert.retraced) certs
 abbrev pub proof_words : List ℕ
 proof_words = codes "No thread over a piece with these ends has fewer stitches than the one that is"
     ++ (codes " shown: the bands of the cuts prove it. Each thread is sewn from its triangle to"
-    ++ codes " its square, along the arrows, and what is sewn again is drawn in dashes beside the first.")
+    ++ (codes " its square, along the arrows, and what is sewn again is drawn in dashes"
+    ++ codes " beside the first."))
 
 -- The text before the shapes of the picture of a proof.
 abbrev pub proof_top : DesignValue → Area → List ℕ
