@@ -1,10 +1,12 @@
 mod cases;
 mod comparisons;
+mod counted;
 mod drawings;
 mod feeding;
 mod files;
 mod limits;
 mod lists;
 mod outside;
+mod prefixes;
 mod rewrites;
 mod words;

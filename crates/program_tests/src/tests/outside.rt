@@ -72,7 +72,7 @@ static FAULTS: &[Case] = &[
     stopped!(4, WRITE_CERT => Bytes(b""), Missing),
     stopped!(5, WRITE_DESIGN => Bytes(CERT), Missing),
     stopped!(6, WRITE_DESIGN => Bytes(CERT), Bytes(b"")),
-    fault!(&[], ROUTE, (9, 2, 2) => READ, &[("b.cert", Missing), ("b.dst", Missing)]),
+    fault!(&[], ROUTE, (0, 0, 0) => READ, &[("b.cert", Missing), ("b.dst", Missing)]),
     fault!(DRAWN, "route a.rw d.dst b.cert", (9, 2, 2) =>
         "stitch: cannot write d.dst\n", &[("b.cert", Bytes(CERT)), ("d.dst", Missing)]),
     fault!(DRAWN, ROUTE, (9, 1, 2) =>

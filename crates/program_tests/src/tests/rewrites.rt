@@ -93,7 +93,9 @@ static WRITTEN: &[Case] = &[
         done!(CONVERT => FIVE_REPORT,
             &[("b.pec", FileContent::PartAt(1_467, 522, &[0x23, 0x00, 0x00]))]),
         done!(CONVERT => FIVE_REPORT,
-            &[("b.pec", FileContent::PartAt(1_467, 56, &[0x02, 0x01, 0x02, 0x03]))])),
+            &[("b.pec", FileContent::PartAt(1_467, 56, &[0x02, 0x01, 0x02, 0x03]))]),
+        // Four blank thumbnails of 228 bytes.
+        done!(CONVERT => FIVE_REPORT, &[("b.pec", FileContent::PartAt(1_467, 555, &[0; 912]))])),
     case!(with_bytes!("a.exp" => &[0x00, 0x00]);
         done!(CONVERT => ONE_REPORT,
             &[("b.pec", FileContent::PartAt(995, 536, &[0x00, 0x00, 0xFF]))]),
@@ -119,6 +121,11 @@ const TWO_FLOATS: &[u8] = &[
     0x50, 0x93, 0x50, 0x50, 0x13, 0x00, 0x00, 0xF3,
 ];
 
+/// In DST: a stitch, two jumps of 121 to the right, a stitch of 121, and the end.
+const ONE_FLOAT: &[u8] = &[
+    0x00, 0x00, 0x03, 0x05, 0x05, 0x87, 0x05, 0x05, 0x87, 0x05, 0x05, 0x07, 0x00, 0x00, 0xF3,
+];
+
 static EDITS: &[Case] = &[
     // The longest floats of DST are two jumps of 121 and a stitch of 121. A third jump would read as a trim.
     case!(("a.dst", records!(TWO_FLOATS));
@@ -129,6 +136,9 @@ static EDITS: &[Case] = &[
         done!("convert b.dst b.lst" => "needles 3 trims 0 stops 0\n",
             &[with_bytes!("b.lst" =>
                 b"stitch-list 1\nlabel []\nblock 1\nneedle 0 0\nfloat 363 0\nfloat 363 363\nend\n")])),
+    case!(("a.dst", records!(ONE_FLOAT));
+        done!("edit a.dst b.dst turn=0" => "needles 2 trims 0 stops 0\n",
+            &[("b.dst", records!(ONE_FLOAT))])),
     // A quarter turn maps the right to the bottom.
     case!(with_bytes!("a.exp" => &[0x00, 0x00, 0x1E, 0x00]);
         done!("edit a.exp b.exp turn=1" => "needles 2 trims 0 stops 0\n",
