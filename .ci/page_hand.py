@@ -3,7 +3,7 @@ import base64
 import os
 import time
 
-SECONDS = 120
+SECONDS = 300
 # Runs a program in the page; the files come and go as base64.
 RUN = """const [program, words, files, done] = arguments;
 const bytesOf = text => Uint8Array.from(atob(text), one => one.charCodeAt(0));
