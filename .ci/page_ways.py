@@ -470,22 +470,6 @@ def test_words(page):
     equal("three sentences first", 3, len(first))
 
 
-def test_stopped(page):
-    """A run that is stopped says so, nothing runs on, and it can be tried again."""
-    shifts = [(37 * k * k + 11 * k) % 90 for k in range(2000)]
-    lines = "".join(f"line {100 * i} {100 * j} {100 * i + 100} {100 * j}\nline {100 * i} {100 * j} {100 * i + shifts[i * j]} {100 * j + 100}\n"
-                    for i in range(20) for j in range(20))
-    page.drop({"many.rw": ("redwork 2\nstep 1\ncolor 1\n" + lines).encode()})
-    page.click("Design", "[role=tab]")
-    page.click("Stop")
-    page.until(lambda: "Try again" in page.says("footer button"))
-    page.settle()
-    equal("it says so", True, any("stopped" in line for line in page.says("#view-design .refused")))
-    page.click("Try again")
-    page.settle()
-    equal("it is done then", True, bool(page.says(".count strong")))
-
-
 # Widths, and how large letters are: 200 of a hundred is half the width at twice the pixels.
 SIZES = ((1280, 1), (640, 2), (400, 1))
 # The contrast of each text with what is behind it, and what is too low.
