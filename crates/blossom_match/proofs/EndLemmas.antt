@@ -2,7 +2,7 @@
 use Rattle.std.proofs.Common.{◌≡◌, ◌≢◌, ℕ, ◌+◌, ◌*◌, ◌≤◌, ◌<◌, List, [], ◌∷◌, ◌++◌, length, get_or, Bool, cond, eqb, ltb, arith, refl, sym, ap, subst, ◌∙◌}
 use Rattle.std.proofs.lemmas.List.Elements.{All-nil, All-cons}
 use Rattle.std.proofs.lemmas.List.Kept.{AllPairs-cons}
-use Rattle.blossom_match.proofs.Names.{nat_tests, All, AllPairs, eqb-true, eqb-false, ltb-true, ltb-false, Each, DualSet, count, dual_load, match_members, match_dual_sets, IsMatch, IsSoundMatch, stored_height, IsSearch, IsPartialMatching, CanStepAt, IsLeastChange, CanSearch, vertex_set, CanAdjust, Adjusts, BeginsSearch, IsPartialWithHeights, IsOddMoatIn, AreMoatsIn, TakesApartMatches, AreLaminar, IsOptimalMatching, IsOddMoat, TableValue, entry, IsMetric, MatchValue, SearchValue, Moat, Pair, DualChange, matches_in, search_value, count-append, hit_same, EachPair, IsTightMatch, MakesProgress, MatchesAll, IsStepResult}
+use Rattle.blossom_match.proofs.Names.{nat_tests, All, AllPairs, eqb-true, eqb-false, ltb-true, ltb-false, Each, DualSet, count, dual_load, match_members, match_dual_sets, IsMatch, IsSoundMatch, stored_height, Advances, IsSearch, IsPartialMatching, CanStepAt, SearchStep, IsLeastChange, CanSearch, vertex_set, CanAdjust, Adjusts, BeginsSearch, IsPartialWithHeights, IsOddMoatIn, AreMoatsIn, TakesApartMatches, AreLaminar, IsOptimalMatching, IsOddMoat, TableValue, entry, IsMetric, MatchValue, SearchValue, Moat, Pair, DualChange, matches_in, count-append, hit_same, EachPair, IsTightMatch, MakesProgress, MatchesAll, IsStepResult}
 use Rattle.blossom_match.specs.declared.phase.StepResult.{StepResult}
 use Rattle.blossom_match.specs.declared.phase.StepResult.TheVariants.{More, Done}
 use Rattle.blossom_match.proofs.FreeLemmas.{begun}
@@ -48,22 +48,19 @@ pub can_adjust_now : (t : TableValue) (s : SearchValue) (c : DualChange) → IsM
     → IsLeastChange t (stored_height s) s c → CanAdjust s c
 can_adjust_now t s c m can bounds = record { t = t; metric = m; can = can; bounds = bounds }
 
+-- the search that a step leads to
+pub searches_on : (t : TableValue) (s r : SearchValue) (step : SearchStep) → CanStepAt t s step → 1 ≤ length s.free
+    → Advances s step r → CanSearch t r
+searches_on t s r step can some l = record {
+  search = subst (λ (hs : List ℕ). IsSearch t (λ (x : ℕ). get_or hs x 0) r) (sym l.heights)
+      (l.search t (stored_height s) can.search can.ready);
+  size = ap (λ (hs : List ℕ). length hs) l.heights ∙ can.size;
+  some = omega (arith, some, ap (λ (xs : List ℕ). length xs) l.free);
+}
+
 pub goes : (t : TableValue) (s wide : SearchValue) (c : DualChange) (next : StepResult) → IsMetric t → CanSearch t s
     → IsLeastChange t (stored_height s) s c → Adjusts s c wide → IsStepResult t wide c.step next → MakesProgress t s next
-goes t s wide c (More r) m can bounds w l =
-    let on = w.search t m can bounds in
-    let free = l.free ∙ w.free in
-    let same = subst (λ (hs : List ℕ). IsSearch t (λ (x : ℕ). get_or hs x 0) (search_value r)) (sym l.heights)
-    (l.search t (stored_height wide) on.search on.ready) in (
-      record {
-        search = same;
-        size = ap (λ (hs : List ℕ). length hs) l.heights ∙ on.size;
-        some =
-            omega (arith, can.some, ap (λ (xs : List ℕ). length xs) free);
-      },
-      omega (arith, l.fewer, w.size),
-      free,
-    )
+goes t s wide c (More r) m can bounds w l = (omega (arith, l.0.fewer, w.size), l.0.free ∙ w.free, l.1)
 goes t s wide c (Done r) m can bounds w l =
     let on = w.search t m can bounds in
     let same = subst (λ (hs : List ℕ). IsPartialMatching t (λ (x : ℕ). get_or hs x 0) (matches_in r.sets r.matches.items) r.free.items)

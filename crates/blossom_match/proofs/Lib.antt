@@ -17,6 +17,7 @@ pub mod MaskLemmas
 pub mod BoundLemmas
 pub mod DualLemmas
 pub mod LoweredLemmas
+pub mod KeptLemmas
 pub mod EndLemmas
 pub mod AdjustmentLemmas
 pub mod InitialDualLemmas

@@ -5,10 +5,9 @@ use Rattle.blossom_match.proofs.Names.{Augment, BeginsSearch, BranchValue, CanSt
 use Rattle.blossom_match.specs.LeastChanges.{CanSearch}
 use Rattle.blossom_match.specs.Masks.{IsSearchMask}
 use Rattle.blossom_match.specs.OuterSlacks.{AreSearchSlacks}
-use Rattle.blossom_match.specs.Phases.{AreStepSlacks, IsStepMask}
+use Rattle.blossom_match.specs.declared.kept_search.KeptSearch.{KeptSearch}
 use Rattle.blossom_match.specs.declared.phase.StepResult.TheVariants.{Done, More}
 use Rattle.blossom_match.specs.declared.state.Pairing.{Pairing}
-use Rattle.blossom_match.specs.declared.state.Search.{Search}
 
 abbrev pub link : ℕ → ℕ → TightEdge
 link from to = record { from = from; to = to }
@@ -95,18 +94,19 @@ pub known_can_step : (step : SearchStep) (can : CanStep search step) → IsSearc
 known_can_step step can = (can.can.search, can.can.ready, can.can.size)
 
 -- after a step: a search with fewer sets outside the outer ones, or a partial matching with one free vertex fewer
-pub known_more : (t : TableValue) (step : SearchStep) (r : Search) → IsStepResult t search step (More r)
-    → (length r.free.items ≡ 2) × (r.heights.items ≡ 1 ∷ 3 ∷ 1 ∷ 2 ∷ 2 ∷ 4 ∷ 5 ∷ []) × (search_size (search_value r) < 3)
-    × ((h : ℕ → ℕ) → IsSearch t h search → IsStepReady t h search step → IsSearch t h (search_value r))
-known_more t step r is = (ap (λ (free : List ℕ). length free) is.free, is.heights, is.fewer, is.search t)
+pub known_more : (t : TableValue) (step : SearchStep) (r : KeptSearch) → IsStepResult t search step (More r)
+    → (length r.search.free.items ≡ 2) × (r.search.heights.items ≡ 1 ∷ 3 ∷ 1 ∷ 2 ∷ 2 ∷ 4 ∷ 5 ∷ [])
+    × (search_size (search_value r.search) < 3) × (r.t.now ≡ t)
+    × ((h : ℕ → ℕ) → IsSearch t h search → IsStepReady t h search step → IsSearch t h (search_value r.search))
+known_more t step r is = (ap (λ (free : List ℕ). length free) is.0.free, is.0.heights, is.0.fewer, is.1, is.0.search t)
 
 pub known_done : (t : TableValue) (step : SearchStep) (r : Pairing) → IsStepResult t search step (Done r)
     → (length r.free.items + 1 ≡ 2) × (r.heights.items ≡ 1 ∷ 3 ∷ 1 ∷ 2 ∷ 2 ∷ 4 ∷ 5 ∷ [])
     × IsPartialMatching t (stored_height search) (partial_value r).matches r.free.items
 known_done t step r is = (is.fewer, is.heights, is.standing)
 
-pub known_progress : (t : TableValue) (r : Search) → MakesProgress t search (More r)
-    → CanSearch t (search_value r) × (search_size (search_value r) < 3) × (r.free.items ≡ 5 ∷ 6 ∷ [])
+pub known_progress : (t : TableValue) (r : KeptSearch) → MakesProgress t search (More r)
+    → (search_size (search_value r.search) < 3) × (r.search.free.items ≡ 5 ∷ 6 ∷ []) × (r.t.now ≡ t)
 known_progress t r is = (is.0, is.1, is.2)
 
 pub known_end : (t : TableValue) (r : Pairing) → MakesProgress t search (Done r)
@@ -128,11 +128,8 @@ pub known_begun : (t : TableValue) (r : SearchValue) → BeginsSearch t 1 (pair 
     × (r.free ≡ 5 ∷ [])
 known_begun t r is = (is.table, is.root, is.heights, is.tree, is.rest, is.free)
 
--- after a step the mask and the slacks are those of the search, with a slack for each vertex where it has ended
-pub known_step_mask : (t : TableValue) (r : Search) (mask : List ℕ) → IsStepMask t (More r) mask → IsSearchMask t (search_value r) mask
-known_step_mask t r mask is = is
-
-pub known_step_slacks : (t : TableValue) (r : Search) (end : Pairing) (reach : List ℕ)
-    → (AreStepSlacks t (More r) reach → AreSearchSlacks t (search_value r) reach)
-    × (AreStepSlacks t (Done end) reach → length reach ≡ t.places)
-known_step_slacks t r end reach = (λ are. are, λ are. are)
+-- a search of which more is kept has free vertices, the slacks from its outer vertices, and a mask of its matches
+pub known_kept : (s : KeptSearch) → ∥ CanSearch s.t.now (search_value s.search) ∥₁
+    × ∥ AreSearchSlacks s.t.now (search_value s.search) s.reach.items ∥₁
+    × IsSearchMask s.t.now (search_value s.search) s.mask.items
+known_kept s = (s.can, s.reaches, s.masks)

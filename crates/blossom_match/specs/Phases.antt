@@ -2,9 +2,6 @@
 use Rattle.std.specs.Prelude.{◌≡◌, ℕ, ◌+◌, ◌<◌, List, [], length, slice_index}
 use Rattle.odd_sets.specs.Blossoms.{vertex_set}
 use Rattle.blossom_match.specs.Searches.{search_size, Advances, EndsSearch, IsPartialMatching}
-use Rattle.blossom_match.specs.LeastChanges.{CanSearch}
-use Rattle.blossom_match.specs.OuterSlacks.{AreSearchSlacks}
-use Rattle.blossom_match.specs.Masks.{IsSearchMask}
 use Rattle.odd_sets.specs.TableValue.{TableValue}
 use Rattle.odd_sets.specs.Tables.{IsTable}
 use Rattle.odd_sets.specs.Values.{MatchValue, SearchValue}
@@ -42,25 +39,14 @@ pub record BeginsSearch (t : TableValue) (place : ℕ) (matches : List MatchValu
   pub rest : s.rest ≡ matches
   pub free : s.free ≡ places
 
--- The result of a step: another search, or a partial matching at its end.
+-- The result of a step: another search over the table, or a partial matching at its end.
 abbrev pub IsStepResult : TableValue → SearchValue → SearchStep → StepResult → Type 0
-IsStepResult t s step (More r) = Advances s step (search_value r)
+IsStepResult t s step (More r) = Advances s step (search_value r.search) × (r.t.now ≡ t)
 IsStepResult t s step (Done r) = EndsSearch t s step (partial_value r)
 
--- The progress of a step: a search with fewer sets outside the outer ones, or the end of the
--- search.
+-- The progress of a step: a search over the table with fewer sets outside the outer ones, or the
+-- end of the search.
 abbrev pub MakesProgress : TableValue → SearchValue → StepResult → Type 0
-MakesProgress t s (More r) = CanSearch t (search_value r)
-    × (search_size (search_value r) < search_size s)
-    × (r.free.items ≡ s.free)
+MakesProgress t s (More r) = (search_size (search_value r.search) < search_size s)
+    × (r.search.free.items ≡ s.free) × (r.t.now ≡ t)
 MakesProgress t s (Done r) = IsPartialState t r × (length r.free.items + 1 ≡ length s.free)
-
--- After a step the mask shows the matches outside the tree, unless the search has ended.
-abbrev pub IsStepMask : TableValue → StepResult → List ℕ → Type 0
-IsStepMask t (More r) mask = IsSearchMask t (search_value r) mask
-IsStepMask t (Done r) mask = Unit {0}
-
--- After a step the array has the slacks from the outer vertices, unless the search has ended.
-abbrev pub AreStepSlacks : TableValue → StepResult → List ℕ → Type 0
-AreStepSlacks t (More r) reach = AreSearchSlacks t (search_value r) reach
-AreStepSlacks t (Done r) reach = length reach ≡ t.places

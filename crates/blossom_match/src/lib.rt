@@ -13,6 +13,7 @@
 
 mod adjustment;
 mod initial_duals;
+mod kept_search;
 mod least;
 mod masks;
 mod matching;

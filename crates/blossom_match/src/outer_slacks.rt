@@ -20,15 +20,6 @@ fn add_set_slacks(sets: &Sets, set: Handle, reach: &mut [u32])
     merge(set.near(sets), set.dual, reach);
 }
 
-/// Sets all cells to FAR.
-pub fn reset(reach: &mut [u32])
-    ensures { (x : ℕ) → x < length reach.new → slice_index reach.new x ≡ FAR }
-{
-    for x in 0..reach.len() {
-        reach[x] = FAR;
-    }
-}
-
 /// Merges the slacks from the outer sets of the branches.
 fn add_branch_slacks(sets: &Sets, tree: &[Branch], reach: &mut [u32])
     requires { Each (λ b. HasSlacks (length reach.old) b.outer) (branches_in sets.now tree.now) }
@@ -48,12 +39,12 @@ pub fn add_slacks_from(s: &Search, at: usize, more: usize, reach: &mut [u32])
     add_branch_slacks(&s.sets, &s.tree[at..at + more], reach);
 }
 
-/// Computes the least slacks from the root of a search.
+/// Computes the least slacks from the root of a search, in cells that are FAR.
 pub fn begin_slacks(s: &Search, reach: &mut [u32])
-    requires { HasSlackCells (search_value s.now) reach.old }
+    requires can { HasSlackCells (search_value s.now) reach.old }
+    requires far { (x : ℕ) → x < length reach.old → slice_index reach.old x ≡ FAR }
     ensures { ComputesRootSlacks (search_value s.now).root reach.new }
 {
-    reset(reach);
     add_set_slacks(&s.sets, s.root, reach);
 }
 

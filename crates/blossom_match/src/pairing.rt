@@ -7,7 +7,7 @@ use crate::initial_duals::initial_matching;
 use crate::phase::pair_up;
 use crate::state::Pairing;
 use design_model::Memory;
-use odd_sets::{DistTable, far_cells};
+use odd_sets::DistTable;
 use std::alloc::Global;
 
 /// Returns matched sets that hold all vertices.
@@ -27,11 +27,9 @@ fn search_all(alloc: Global, t: &DistTable, from: Pairing) -> Result<Pairing, Me
     requires even { length from.free.items % 2 ≡ 0 }
     ensures { IfOk result (λ r. MatchesAll t.now (matches_in r.sets r.matches.items)) }
 {
-    let mut reach = far_cells(alloc, t.places() as usize)?;
-    let mut mask = far_cells(alloc, t.places() as usize)?;
     let mut now = from;
     while let Some(place) = now.free.pop() {
-        now = pair_up(alloc, t, place, now, &mut reach, &mut mask)?;
+        now = pair_up(alloc, t, place, now)?;
     }
     Ok(now)
 }

@@ -4,10 +4,9 @@ use Rattle.blossom_match.proofs.OuterSlackLemmas.{has_root_row, reaches_root}
 use Rattle.blossom_match.proofs.outer_slacks.begin_slacks.Goals as goal
 
 pub add_set_slacks-requires : goal.add_set_slacks-requires
-add_set_slacks-requires c =
-    omega (arith, c.reset.auto.reach, has_root_row (search_value c.args.s.now) c.args.reach.now c.requires)
+add_set_slacks-requires c = has_root_row (search_value c.args.s.now) c.args.reach.now c.requires.can
 
 pub returns : goal.returns
 returns c = λ t hs can size.
-    reaches_root t hs (search_value c.args.s.now).root c.reset.new.reach c.add_set_slacks.new.reach can
-    (omega (arith, c.add_set_slacks.auto.reach, size)) c.add_set_slacks.auto.reach c.reset.ensures c.add_set_slacks.ensures
+    reaches_root t hs (search_value c.args.s.now).root c.args.reach.now c.add_set_slacks.new.reach can
+    (omega (arith, c.add_set_slacks.auto.reach, size)) c.add_set_slacks.auto.reach c.requires.far c.add_set_slacks.ensures

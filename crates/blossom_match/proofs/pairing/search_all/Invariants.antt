@@ -7,8 +7,6 @@ abbrev pub invariant-loop-place : goal.invariant-loop-place
 invariant-loop-place l = record {
   stands : IsPartialWithHeights l.t (matches_in l.now.sets l.now.matches.items) l.now.free.items l.now.heights.items;
   even : length l.now.free.items % 2 ≡ 0;
-  size : length l.reach.items ≡ l.t.places;
-  masked : length l.mask.items ≡ l.t.places;
 }
 
 abbrev pub decreases-loop-place : goal.decreases-loop-place
