@@ -29,7 +29,7 @@ def ready(drawing):
     return files["f.rw"]
 
 
-def tied(base, drawing, edits=("tie=7",)):
+def tied(base, drawing, edits=("tie=10",)):
     """The design, its certificate and the design for the machine, by the built programs."""
     made = native("stitch", ["route", f"{base}.rw", f"{base}.pes", f"{base}.cert"], {f"{base}.rw": drawing})[3]
     return made, native("stitch_design", ["edit", f"{base}.pes", "m.pes", *edits], made)[3]["m.pes"]
@@ -228,12 +228,12 @@ def test_ready_refused(page):
 
 def test_finish(page):
     """Ties come after merging, and the tied design is the one that is shown, played and checked."""
-    drawing = b"redwork 2\nstep 25\ncolor 5\nline 0 0 4 0 8 0 12 0 30 0 55 0\n"
+    drawing = b"redwork 2\nstep 25\ncolor 5\nline 0 0 0 4 12 4 30 4 55 4\n"
     watch_pictures(page)
     page.drop({"short.rw": drawing})
     page.view("Design")
     page.set("Leave out stitches shorter than", None)
-    for edits, value in ((("merge=5", "tie=7"), None), (("merge=10", "tie=7"), "1")):
+    for edits, value in ((("merge=5", "tie=10"), None), (("merge=10", "tie=10"), "1")):
         if value:
             page.js("""const found = [...document.querySelectorAll('input[type=number]')].find(one => one.checkVisibility()
                 && one.getAttribute('aria-label') === 'Leave out stitches shorter than');
@@ -402,7 +402,7 @@ def test_tied_check(page):
     """Check takes ties away from a design, and says so; another design is a no, with or without ties."""
     rose = examples("rose.rw")
     made, machine = tied("rose", rose["rose.rw"])
-    bean = native("stitch_design", ["edit", "rose.pes", "b.pes", "bean=1", "tie=7"], made)[3]["b.pes"]
+    bean = native("stitch_design", ["edit", "rose.pes", "b.pes", "bean=1", "tie=10"], made)[3]["b.pes"]
     for design, answer, isSaid in ((made["rose.pes"], "yes", False), (machine, "yes", True), (bean, "no", True)):
         page.drop({**rose, "rose.cert": made["rose.cert"], "rose.pes": design})
         equal("the answer", answer, page.says(".answer .yes, .answer .no")[0])

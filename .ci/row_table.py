@@ -201,7 +201,7 @@ row("usage of stitch_design, with files there", HERE, misused("stitch_design"), 
     *[(f"stitch_design edit a.lst b.dst {edit}", f"{edit}: not an edit") for edit in (
         "strt=1", "turn=4", "mirror=z", "thread=0,1", "shift=60001,0", "bare=1", "centre=", "drop_empty", "cut", "carry=5", "=7")],
     *[(f"stitch_design edit a.lst b.dst tie {key}={number}", f"{key}={number}: from {least} to {most}")
-      for key, least, most in (("tie", 2, 20), ("cut", 0, 60000), ("float", 1, 60000), ("merge", 1, 100), ("bean", 1, 10),
+      for key, least, most in (("tie", 8, 18), ("cut", 0, 60000), ("float", 1, 60000), ("merge", 1, 100), ("bean", 1, 10),
                                ("scale", 1, 1000)) for number in (least - 1, most + 1, "x", "")],
     ("stitch_design edit a.lst b.dst name=seventeen_letters", "name=seventeen_letters: at most 16 printable characters"),
     (["stitch_design", "edit", "a.lst", "b.dst", "name=a\tb"], "name=a\tb: at most 16 printable characters"),
@@ -566,10 +566,10 @@ row("hoops", {"a.lst": lst("block 1", *path(0, 0, 100, 0, 100, 200))},
 SHOP = ["block 5", *path(0, 0, 30, 0, 60, 0), "trim", "needle 99 0", "float 160 0", "block 7", "block 9",
         *path(0, 12, 0, 14, 0, 40)]
 SHOP_REPORT = "needles 8 trims 1 stops 2\n"
-# Each thread of SHOP begins and ends with two needles on its stitch there, at most 0.7 mm away, and back.
-TIED = ["block 5", *path(0, 0, 7, 0, 0, 0, 7, 0, 0, 0, 30, 0, 60, 0, 53, 0, 60, 0, 53, 0, 60, 0), "trim",
-        *path(99, 0, 106, 0, 99, 0, 106, 0, 99, 0), "float 160 0", *path(153, 0, 160, 0, 153, 0, 160, 0), "block 7",
-        "block 9", *path(0, 12, 0, 14, 0, 12, 0, 14, 0, 12, 0, 14, 0, 40, 0, 33, 0, 40, 0, 33, 0, 40)]
+# Each thread of SHOP begins and ends with a tie along itself, to 1 mm from its end by half of that.
+TIED = ["block 5", *path(0, 0, 5, 0, 10, 0, 5, 0, 0, 0, 30, 0, 60, 0, 55, 0, 50, 0, 55, 0, 60, 0), "trim",
+        *path(99, 0, 104, 0, 109, 0, 104, 0, 99, 0), "float 160 0", *path(155, 0, 150, 0, 155, 0, 160, 0), "block 7",
+        "block 9", *path(0, 12, 0, 17, 0, 22, 0, 17, 0, 12, 0, 14, 0, 40, 0, 35, 0, 30, 0, 35, 0, 40)]
 TIED_REPORT = "needles 32 trims 1 stops 2\n"
 
 row("places of designs", {"a.lst": lst(*SHOP), "b.lst": lst("block 1", *path(0, 0, 0, 1, 99, 0, 1, 0, 0, 0)),
@@ -652,8 +652,8 @@ row("edits of designs that are refused", {"a.lst": lst(*SHOP), "far.lst": lst("b
     failed("stitch_design edit a.lst none/b.lst tie", "cannot write none/b.lst"))
 
 # What is routed and tied goes to the machine, and has its certificate when it is bared.
-TIED_LINE = ["block 1", *path(0, 0, 7, 0, 0, 0, 7, 0, 0, 0, 10, 0, 20, 0, 30, 0, 40, 0, 30, 0, 20, 0, 10, 0, 0, 0,
-                              7, 0, 0, 0, 7, 0, 0, 0), "trim"]
+TIED_LINE = ["block 1", *path(0, 0, 5, 0, 10, 0, 5, 0, 0, 0, 10, 0, 20, 0, 30, 0, 40, 0, 30, 0, 20, 0, 10, 0, 0, 0,
+                              5, 0, 10, 0, 5, 0, 0, 0), "trim"]
 row("a routed design, tied and bared", {"a.rw": LINE},
     done("stitch double a.rw b.dst b.cert", text("block 1 piece 1 lines 1 cost 4 penetrations 9", "pieces 1 penetrations 9"),
          {"b.dst": dst(*LINE_ACTS), "b.cert": cert("piece 4", "walk 1 -1")}),
@@ -662,7 +662,8 @@ row("a routed design, tied and bared", {"a.rw": LINE},
          {"c.dst": dst(*LINE_ACTS), "c.cert": cert("piece 4", "walk 1 -1", "cut 4 1", "cut 4 2")}),
     refused("stitch_design pass c.dst tie=9", "c.dst: piece 1: not tied at its start"),
     done("stitch_design edit c.dst d.exp tie", "needles 17 trims 1 stops 0\n", {"d.exp": exp(*TIED_LINE)}),
-    done("stitch_design pass d.exp hole=8", ""),
+    done("stitch_design pass d.exp", ""), done("stitch_design edit d.exp d.lst tie=18", "needles 17 trims 1 stops 0\n", {
+        "d.lst": lst(*TIED_LINE)}),
     done("stitch_design edit d.exp e.pes bare", "needles 9 trims 1 stops 0\n", {"e.pes": pes(*LINE_ACTS)}),
     done("stitch check a.rw e.pes c.cert", "yes\n"), done("stitch_design compare c.dst e.pes", ""))
 

@@ -9,6 +9,7 @@ import { isKept, keepNow, keepSoon, keptWork } from "./storage.js";
 import { drawingOfSvg, openSvg } from "./svg_files.js";
 import { tabsOf } from "./tabs.js";
 import { text } from "./texts.js";
+import { editsInRange } from "./topics.js";
 import { checkView } from "./view_check.js";
 import { convertView } from "./view_convert.js";
 import { designView } from "./view_design.js";
@@ -68,6 +69,7 @@ async function start() {
     useRunner(runner);
     showPage(bar);
     keepOnLeaving();
+    if (work) work.finish.edits = editsInRange(work.finish.edits);
     change({ ...work, refusals: isKept() ? [] : [text("page.notKept")] });
     // what a test in a browser calls
     window.stitch = { run: (...words) => runner.run(...words), programs: [...runner.programs], svg: drawingOfSvg,

@@ -35,7 +35,7 @@ let showAll = () => {}, wantedNow = () => [], keep = () => {}, asking = null, is
 
 // What is done to a design before it goes to a machine, if nothing else is chosen: its threads are tied.
 export function firstFinish() {
-    return { turn: "", mirror: "", threads: {}, edits: { tie: 7 } };
+    return { turn: "", mirror: "", threads: {}, edits: { tie: 10 } };
 }
 
 // The step of the drawing that is shown, or null where none is open.

@@ -13,7 +13,13 @@ import { refusalOf, saidOf } from "./words.js";
 // the greatest and the first one, and whether these are tenths of a millimetre. Threads are tied last, since a merge would take
 // short ties away.
 export const EDITS = [{ name: "drop-empty" }, { name: "centre" }, { name: "merge", least: 1, most: 100, first: 5, isLength: true },
-    { name: "bean", least: 1, most: 5, first: 1 }, { name: "tie", least: 2, most: 20, first: 7, isLength: true }];
+    { name: "bean", least: 1, most: 5, first: 1 }, { name: "tie", least: 8, most: 18, first: 10, isLength: true }];
+
+// The edits that are kept, with numbers from their least to their greatest: an older page had others.
+export function editsInRange(edits) {
+    const inRange = ({ least, most }, given) => least && given ? Math.min(Math.max(given, least), most) : given;
+    return Object.fromEntries(EDITS.filter(({ name }) => name in edits).map(one => [one.name, inRange(one, edits[one.name])]));
+}
 
 const refused = ({ err }) => ({ refused: refusalOf(err), line: refusedLine(err) });
 const ofDrawing = () => drawn() && [drawn().base, drawn().text];

@@ -113,7 +113,7 @@ known_bad_edit e = (λ files why refuses. refuses, λ files why refuses. refuses
 
 -- an edited design is written as the output in its format, with thumbnails where the edit is among them and the format has some
 abbrev to_file : DesignEditOrder → DesignEditOrder
-to_file e = record e { output = codes "b.dst"; changes = tied 7 ∷ [] }
+to_file e = record e { output = codes "b.dst"; changes = tied 10 ∷ [] }
 
 pub known_written : (e : DesignEditOrder) (d : DesignValue) (loaded : Loaded) (files : Option Files) (product : ProductValue)
     → (design_edit_read e (Ok loaded) ≡ edited_design_plan e (edited_in_order 1 e.changes loaded.design))

@@ -28,7 +28,7 @@ known_requests = (refl, refl, refl, refl, refl, refl, refl, refl)
 
 pub known_edits :
     Requests (codes "edit" ∷ codes "a" ∷ codes "b" ∷ codes "bare" ∷ codes "tie" ∷ codes "drop-empty" ∷ [])
-    (edit (codes "a") (codes "b") (bared ∷ tied 7 ∷ needled ∷ []))
+    (edit (codes "a") (codes "b") (bared ∷ tied 10 ∷ needled ∷ []))
     × Requests (codes "edit" ∷ codes "a" ∷ codes "b" ∷ codes "thumbnails" ∷ codes "bare" ∷ [])
     (edit (codes "a") (codes "b") (pictured ∷ bared ∷ []))
 unfolding parsed_command_words
@@ -68,7 +68,7 @@ pub known_edit_mistakes : IsMistaken (codes "edit" ∷ []) (codes "edit") (codes
     × IsMistaken (codes "edit" ∷ codes "a" ∷ codes "b" ∷ []) (codes "b") (codes "needs an edit")
     × IsMistaken (codes "edit" ∷ codes "a" ∷ codes "a" ∷ codes "tie" ∷ []) (codes "a") (codes "is the input")
     × IsMistaken (codes "edit" ∷ codes "a" ∷ codes "b" ∷ codes "tie" ∷ codes "strt=1" ∷ []) (codes "strt=1") (codes "not an edit")
-    × IsMistaken (codes "edit" ∷ codes "a" ∷ codes "b" ∷ codes "tie=21" ∷ []) (codes "tie=21") (codes "from 2 to 20")
+    × IsMistaken (codes "edit" ∷ codes "a" ∷ codes "b" ∷ codes "tie=19" ∷ []) (codes "tie=19") (codes "from 8 to 18")
     × IsMistaken (codes "edit" ∷ codes "a" ∷ codes "b" ∷ codes "tie" ∷ []) (codes "a") (codes "no format has this ending")
 unfolding parsed_command_words
 known_edit_mistakes = ((refl, refl), (refl, refl), (refl, refl), (refl, refl), (refl, refl), (refl, refl), (refl, refl))

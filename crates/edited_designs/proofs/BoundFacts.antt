@@ -12,14 +12,14 @@ use Rattle.step_splitter.specs.Refits.{commands_of_acts}
 use Rattle.edited_designs.proofs.Names.{nat_tests, DesignValue, IsDesignEdit, bad_design_edit_is_out_of_memory, design_change}
 
 pub known_changes : map design_change
-    (edit.Move (motion.Mirror axis.Y) ∷ edit.Thread 3 9 ∷ edit.Tie 7 ∷ edit.Bare ∷ edit.Centre ∷ edit.Cut 60
+    (edit.Move (motion.Mirror axis.Y) ∷ edit.Thread 3 9 ∷ edit.Tie 10 ∷ edit.Bare ∷ edit.Centre ∷ edit.Cut 60
     ∷ edit.Carry 5 ∷ edit.Merge 3 ∷ edit.Bean 2 ∷ edit.Scale 150 ∷ edit.DropEmpty ∷ edit.Thumbnails ∷ [])
-    ≡ moved (motion.Mirror axis.Y) ∷ threaded 3 9 ∷ tied 7 ∷ bared ∷ centred ∷ cut 60 ∷ carried 5 ∷ merged 3 ∷ beaned 2 ∷ scaled 150
+    ≡ moved (motion.Mirror axis.Y) ∷ threaded 3 9 ∷ tied 10 ∷ bared ∷ centred ∷ cut 60 ∷ carried 5 ∷ merged 3 ∷ beaned 2 ∷ scaled 150
     ∷ needled ∷ pictured ∷ []
 known_changes = refl
 
--- a tie reaches from 2 to 20, a block is one of 255, lengths are at most 60000, and a scale at most 1000
-pub known_ties : (IsDesignEdit (edit.Tie 1) → ⊥) × (IsDesignEdit (edit.Tie 21) → ⊥)
+-- a tie has a length from 8 to 18, a block is one of 255, lengths are at most 60000, and a scale at most 1000
+pub known_ties : (IsDesignEdit (edit.Tie 7) → ⊥) × (IsDesignEdit (edit.Tie 19) → ⊥)
 known_ties = (λ is. omega (arith, is.0), λ is. omega (arith, is.1))
 
 pub known_threads : (IsDesignEdit (edit.Thread 0 9) → ⊥) × (IsDesignEdit (edit.Thread 256 9) → ⊥)

@@ -15,13 +15,13 @@ abbrev refused : List ℕ → Type 0
 refused word = parsed_change word ≡ None
 
 -- edits without a value
-pub known_plain : (parsed_change (codes "tie") ≡ Some (tied 7)) × (parsed_change (codes "bare") ≡ Some bared)
+pub known_plain : (parsed_change (codes "tie") ≡ Some (tied 10)) × (parsed_change (codes "bare") ≡ Some bared)
     × (parsed_change (codes "centre") ≡ Some centred) × (parsed_change (codes "drop-empty") ≡ Some needled)
     × (parsed_change (codes "thumbnails") ≡ Some pictured) × refused (codes "center")
 known_plain = (refl, refl, refl, refl, refl, refl)
 
 -- each key with its least number, and one below
-pub known_least : (parsed_change (codes "tie=2") ≡ Some (tied 2)) × refused (codes "tie=1")
+pub known_least : (parsed_change (codes "tie=8") ≡ Some (tied 8)) × refused (codes "tie=7")
     × (parsed_change (codes "cut=0") ≡ Some (cut 0)) × refused (codes "cut=-1")
     × (parsed_change (codes "float=1") ≡ Some (carried 1)) × refused (codes "float=0")
     × (parsed_change (codes "merge=1") ≡ Some (merged 1)) × refused (codes "merge=0")
@@ -30,7 +30,7 @@ pub known_least : (parsed_change (codes "tie=2") ≡ Some (tied 2)) × refused (
 known_least = (refl, refl, refl, refl, refl, refl, refl, refl, refl, refl, refl, refl)
 
 -- each key with its greatest number, and one above
-pub known_most : (parsed_change (codes "tie=20") ≡ Some (tied 20)) × refused (codes "tie=21")
+pub known_most : (parsed_change (codes "tie=18") ≡ Some (tied 18)) × refused (codes "tie=19")
     × (parsed_change (codes "cut=60000") ≡ Some (cut 60000)) × refused (codes "cut=60001")
     × (parsed_change (codes "float=60000") ≡ Some (carried 60000)) × refused (codes "float=60001")
     × (parsed_change (codes "merge=100") ≡ Some (merged 100)) × refused (codes "merge=101")

@@ -12,14 +12,14 @@ use Rattle.sewing_edits.specs.declared.scales.TheConstants.{MAX_SCALE}
 use Rattle.sewing_edits.specs.declared.tie_points.TheConstants.{MIN_TIE, MAX_TIE}
 
 -- An edit of a design. `moved`: by a motion. `threaded`: another thread for a block, numbered from
--- 1. `tied`, `bared`: ties at the ends of threads, by a reach, and none. `centred`. `cut`: long
+-- 1. `tied`, `bared`: ties at the ends of threads, by a length, and none. `centred`. `cut`: long
 -- floats become trims. `carried`: short trims become floats. `merged`: near needles go. `beaned`:
 -- each stitch there and back. `scaled`: by hundredths. `needled`: without empty blocks. `pictured`:
 -- the same design, whose file has its thumbnails. `named`: a label.
 pub data DesignChange : Type 0 where
   moved : Motion → DesignChange
   threaded : (place number : ℕ) → DesignChange
-  tied : (reach : ℕ) → DesignChange
+  tied : (length : ℕ) → DesignChange
   bared : DesignChange
   centred : DesignChange
   cut : (limit : ℕ) → DesignChange
@@ -35,7 +35,7 @@ pub data DesignChange : Type 0 where
 abbrev pub design_change : DesignEdit → DesignChange
 design_change (edit.Move by) = moved by
 design_change (edit.Thread place number) = threaded place number
-design_change (edit.Tie reach) = tied reach
+design_change (edit.Tie length) = tied length
 design_change edit.Bare = bared
 design_change edit.Centre = centred
 design_change (edit.Cut limit) = cut limit
@@ -51,7 +51,7 @@ design_change (edit.Name label) = named label.now
 abbrev pub IsDesignEdit : DesignEdit → Type 0
 IsDesignEdit (edit.Move by) = IsMotionInBounds by
 IsDesignEdit (edit.Thread place number) = (1 ≤ place) × (place ≤ 255)
-IsDesignEdit (edit.Tie reach) = (MIN_TIE ≤ reach) × (reach ≤ MAX_TIE)
+IsDesignEdit (edit.Tie length) = (MIN_TIE ≤ length) × (length ≤ MAX_TIE)
 IsDesignEdit edit.Bare = Unit {0}
 IsDesignEdit edit.Centre = Unit {0}
 IsDesignEdit (edit.Cut limit) = limit ≤ MAX_REACH

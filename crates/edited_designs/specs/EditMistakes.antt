@@ -11,7 +11,7 @@ use Rattle.text_parts.specs.Parts.{split_at_byte}
 
 -- The range of a key's number.
 abbrev pub range_text : EditKey → List ℕ
-range_text key.Tie = codes "from 2 to 20"
+range_text key.Tie = codes "from 8 to 18"
 range_text key.Cut = codes "from 0 to 60000"
 range_text key.Float = codes "from 1 to 60000"
 range_text key.Merge = codes "from 1 to 100"

@@ -64,7 +64,7 @@ bare_acts_of d = acts_without_numbers (acts_of d)
 abbrev pub edited_design : DesignChange → DesignValue → Result DesignValue DesignFault
 edited_design (moved by) d = moved_by by d
 edited_design (threaded place number) d = threaded_at place number d
-edited_design (tied reach) d = given_acts d (tied_acts reach (bare_acts_of d))
+edited_design (tied length) d = given_acts d (tied_acts length (bare_acts_of d))
 edited_design bared d = given_acts d (bared_acts (bare_acts_of d))
 edited_design centred d =
     mapped (shifted (neg_ℤ (middle_of_needles d).x) (neg_ℤ (middle_of_needles d).y) d)

@@ -34,7 +34,7 @@ pub fn edit_design(alloc: Global, design: Design, edit: DesignEdit<'_>) -> Edite
     match edit {
         DesignEdit::Move(by) => moved(design, by),
         DesignEdit::Thread { place, thread } => threaded(design, place, thread),
-        DesignEdit::Tie(reach) => of_rewrite(tie(alloc, &design, reach)),
+        DesignEdit::Tie(length) => of_rewrite(tie(alloc, &design, length)),
         DesignEdit::Bare => of_rewrite(bare(alloc, &design)),
         DesignEdit::Centre => centred(design),
         DesignEdit::Cut(limit) => of_rewrite(cut(alloc, &design, limit)),

@@ -7,7 +7,7 @@ pub enum DesignEdit<'a> {
     Move(Motion),
     /// Set the thread of a block, numbered from 1.
     Thread { place: u32, thread: u8 },
-    /// Tie each thread, with ties that go at most so many tenths of a millimetre.
+    /// Tie each end of a thread that isn't tied, with ties of at least so many tenths of a millimetre.
     Tie(u32),
     /// Take the ties of each thread away.
     Bare,

@@ -5,8 +5,8 @@ ghost use Rattle.std.specs.Prelude.{◌≡◌, ◌≤◌};
 use crate::design_edit::DesignEdit;
 use sewing_edits::{MAX_BEAN, MAX_REACH, MAX_SCALE, MAX_TIE, MIN_TIE};
 
-/// The reach of a tie where none is given, in tenths of a millimetre.
-pub const DEFAULT_TIE: u32 = 7;
+/// The length of a tie where none is given, in tenths of a millimetre.
+pub const DEFAULT_TIE: u32 = 10;
 
 /// The greatest limit of a merge, in tenths of a millimetre.
 pub const MAX_MERGE: u32 = 100;

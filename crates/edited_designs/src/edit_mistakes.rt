@@ -70,7 +70,7 @@ fn range_text(key: EditKey) -> &'static [u8]
     ensures { result.now ≡ range_text key }
 {
     match key {
-        EditKey::Tie => b"from 2 to 20",
+        EditKey::Tie => b"from 8 to 18",
         EditKey::Cut => b"from 0 to 60000",
         EditKey::Float => b"from 1 to 60000",
         EditKey::Merge => b"from 1 to 100",

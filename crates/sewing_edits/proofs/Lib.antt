@@ -8,11 +8,12 @@ pub mod ExtentLemmas
 pub mod BlockLemmas
 pub mod ThreadLemmas
 mod SewingFacts
-pub mod PointLemmas
-pub mod TieLemmas
-pub mod TieOrderLemmas
-pub mod NearLemmas
-pub mod PutLemmas
+pub mod TiePointLemmas
+pub mod OwnTieLemmas
+pub mod ThreadTieLemmas
+pub mod ThreadActLemmas
+pub mod ThreadRangeLemmas
+pub mod TieLawLemmas
 mod TieFacts
 mod CutLawFacts
 mod TieLawFacts

@@ -9,7 +9,7 @@ pub use Rattle.design_model.specs.Acts.{acts_of, acts_without_numbers}
 pub use Rattle.design_model.specs.declared.act.Act.{Act}
 pub use Rattle.design_model.specs.declared.point.Point.{Point}
 pub use Rattle.design_model.proofs.CallerLemmas.{point_itself, same_is, same_point}
-pub use Rattle.design_model.proofs.ListLemmas.{false_true, first_true, next_range, no_difference, second_true}
+pub use Rattle.design_model.proofs.ListLemmas.{false_true, first_true, no_difference, second_true}
 pub use Rattle.design_model.specs.Lengths.{square_of}
 pub use Rattle.design_model.specs.Points.{is_same_point, move_between, move_size}
 pub use Rattle.step_splitter.specs.Refits.{needles_at}
@@ -20,7 +20,3 @@ pub use Rattle.sewing_edits.specs.Beans.{bean_points, beaned_from, there_and_bac
 pub use Rattle.sewing_edits.specs.CarriedTrims.{are_trims_far, carried_from, is_near_next}
 pub use Rattle.sewing_edits.specs.FloatCuts.{are_floats_within, cut_from, cut_if, is_farther}
 pub use Rattle.sewing_edits.specs.Merges.{are_long_enough, is_long_enough, is_nearer, merged_from, thread_ends}
-pub use Rattle.sewing_edits.specs.ThreadTies.{after_one_more, after_stitch, after_tie, bared_acts, bared_from, can_be_tie, tie_after}
-pub use Rattle.sewing_edits.specs.ThreadTies.{tie_length, tie_needles, tied_acts, tied_from}
-pub use Rattle.sewing_edits.specs.TiePoints.{coordinate_toward, farthest_part, farthest_point, is_part_within, is_tie_point}
-pub use Rattle.sewing_edits.specs.TiePoints.{is_tie_point_by, nearest_part, point_beside, point_on_stitch, tie_point}

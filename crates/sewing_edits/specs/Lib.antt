@@ -10,4 +10,5 @@ pub mod EmptyBlockSteps
 -- Read ThreadTies first: what it is to tie threads, and to take ties away.
 pub mod TiePoints
 pub mod ThreadTies
+pub mod ThreadRanges
 pub mod TieTheorems

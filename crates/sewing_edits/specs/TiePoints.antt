@@ -1,66 +1,78 @@
--- The needle point to which a tie goes from an end of a thread, in whole tenths of a millimetre.
--- Own rule: the point lies on the stitch at the end, rounded to the nearest tenth across its longer
--- axis, and as far along that axis as it can be within the reach of the tie.
-use Rattle.std.specs.Prelude.{ℕ, zero, suc, ℤ, pos, ◌+◌, ◌-◌, ◌*◌, ◌/◌, ◌+ℤ◌, ◌-ℤ◌, int_le, Bool, List, nat_le, unsigned_abs, min, if◌then◌else◌}
-use Rattle.std.specs.List.{list_any, range_with_len}
+-- The points of a tie: p, the end of a thread, q along the thread from it, and h, halfway. Lengths
+-- are whole tenths of a millimetre, compared by their squares.
+use Rattle.std.specs.Prelude.{ℕ, zero, suc, ℤ, pos, ◌+◌, ◌-◌, ◌*◌, ◌/◌, ◌+ℤ◌, ◌-ℤ◌, int_le, Bool, List, [], ◌∷◌, Option, Some, None, nat_le, unsigned_abs, unwrap_or, if◌then◌else◌}
 use Rattle.design_model.specs.declared.point.Point.{Point}
 use Rattle.design_model.specs.Lengths.{square_of}
-use Rattle.design_model.specs.Points.{is_same_point, move_between, move_size}
-use Rattle.sewing_edits.specs.declared.tie_points.TheConstants.{MIN_TIE, MAX_TIE}
+use Rattle.design_model.specs.Points.{move_between, move_size}
+use Rattle.design_review.specs.declared.thread_needles.ThreadNeedle.{ThreadNeedle}
 
--- The coordinate at a distance from one coordinate, on the side of another.
-abbrev pub coordinate_toward : ℤ → ℤ → ℕ → ℤ
-coordinate_toward from to by = if int_le from to then from +ℤ pos by else from -ℤ pos by
+-- The distance that is covered after `i` of `n` equal parts, to the nearest, halves up.
+abbrev pub part_up : (i distance n : ℕ) → ℕ
+part_up i distance n = (2 * (i * distance) + n) / (2 * n)
 
--- The distance that is covered after `i` of `n` equal parts, rounded to the nearest.
-abbrev pub nearest_part : (i distance n : ℕ) → ℕ
-nearest_part i distance n = (2 * (i * distance) + n) / (2 * n)
+-- The distance that is covered after `i` of `n` equal parts, to the nearest, halves down.
+abbrev pub part_down : (i distance n : ℕ) → ℕ
+part_down i distance n = (2 * (i * distance) + n - 1) / (2 * n)
 
--- The distance on one axis that is covered after `i` of `n` equal parts of a segment.
-abbrev pub covered : ℤ → ℤ → (n i : ℕ) → ℕ
-covered from to n i = nearest_part i (unsigned_abs (to -ℤ from)) n
+-- The coordinate after `i` of `n` equal parts from one coordinate to another, to the nearest.
+-- Halves go to the greater coordinate.
+abbrev pub coordinate_after : (from to : ℤ) → (n i : ℕ) → ℤ
+coordinate_after from to n i =
+    if int_le from to then from +ℤ pos (part_up i (unsigned_abs (to -ℤ from)) n)
+    else from -ℤ pos (part_down i (unsigned_abs (to -ℤ from)) n)
 
--- The point that divides a segment after `i` of `n` equal parts, rounded to the nearest on each
--- axis.
+-- The point of a stitch after `i` of `n` equal parts.
 abbrev pub point_on_stitch : Point → Point → (n i : ℕ) → Point
 point_on_stitch p q n i = record {
-  x = coordinate_toward p.x q.x (covered p.x q.x n i);
-  y = coordinate_toward p.y q.y (covered p.y q.y n i);
+  x = coordinate_after p.x q.x n i;
+  y = coordinate_after p.y q.y n i;
 }
 
--- The test whether the point of a stitch after `i` of `n` parts lies within the reach.
-abbrev pub is_part_within : ℕ → Point → Point → (n i : ℕ) → Bool
-is_part_within reach p q n i =
-    nat_le (square_of p (point_on_stitch p q n i)) (reach * reach)
+-- The test whether a point is at least so far from p.
+abbrev pub is_far : (length : ℕ) (p q : Point) → Bool
+is_far length p q = nat_le (length * length) (square_of p q)
 
--- The greatest number of parts, at most `i`, after which a stitch is within the reach.
-abbrev pub farthest_part : ℕ → Point → Point → (n i : ℕ) → ℕ
-farthest_part reach p q n zero = zero
-farthest_part reach p q n (suc i) =
-    if is_part_within reach p q n (suc i) then suc i else farthest_part reach p q n i
+-- The first point of the last `left` of `n` parts of a stitch that is at least so far from p.
+abbrev pub point_beyond : (length : ℕ) (p from to : Point) (n left : ℕ) → Option Point
+point_beyond length p from to n zero = None
+point_beyond length p from to n (suc left) =
+    let q = point_on_stitch from to n (n - left) in
+    if is_far length p q then Some q else point_beyond length p from to n left
 
--- The farthest point of a stitch within the reach of its start, by steps along its longer axis.
-abbrev pub farthest_point : ℕ → Point → Point → Point
-farthest_point reach p q =
-    let n = move_size (move_between p q) in
-    point_on_stitch p q n (farthest_part reach p q n (min reach n))
+-- The first point of a stitch that is at least so far from p, by steps of a tenth along the longer
+-- axis.
+abbrev pub point_on_span : (length : ℕ) (p from to : Point) → Option Point
+point_on_span length p from to =
+    let n = move_size (move_between from to) in point_beyond length p from to n n
 
--- The point beside another one: to the right, or to the left of a point on the right side.
+-- The first point, if there is one, else the second.
+abbrev pub either_point : Option Point → Option Point → Option Point
+either_point (Some q) other = Some q
+either_point None other = other
+
+-- The first point along a thread that is at least so far from p, given the needle before those that
+-- are left. A float is on the way as a stitch is.
+abbrev pub point_along : (length : ℕ) (p before : Point) → List ThreadNeedle → Option Point
+point_along length p before [] = None
+point_along length p before (n ∷ rest) =
+    either_point (point_on_span length p before n.at) (point_along length p n.at rest)
+
+-- The point beside another one: to the right, or to the left of a point right of the origin.
 abbrev pub point_beside : ℕ → Point → Point
-point_beside reach p = record { x = coordinate_toward p.x (pos 0) reach; y = p.y }
+point_beside length p = record {
+  x = if int_le p.x (pos 0) then p.x +ℤ pos length else p.x -ℤ pos length;
+  y = p.y;
+}
 
--- The point to which a tie goes from p: on the stitch between p and its neighbour. Where both are
--- one point, as in a thread of one needle, it is the point beside.
-abbrev pub tie_point : ℕ → (p neighbour : Point) → Point
-tie_point reach p neighbour =
-    if is_same_point p neighbour then point_beside reach p else farthest_point reach p neighbour
+-- The point q of a tie of p, the first needle of a thread, given the others: the first along them
+-- that is far enough, or beside p where none is.
+abbrev pub tie_point : (length : ℕ) → Point → List ThreadNeedle → Point
+tie_point length p rest = unwrap_or (point_along length p p rest) (point_beside length p)
 
--- The test whether a tie from p with one of the given reaches goes to q.
-abbrev pub is_tie_point_by : (p q neighbour : Point) → List ℕ → Bool
-is_tie_point_by p q neighbour reaches =
-    list_any (λ reach. is_same_point q (tie_point reach p neighbour)) reaches
+-- The coordinate halfway between two, rounded down.
+abbrev pub halfway : ℤ → ℤ → ℤ
+halfway a b = (if int_le a b then a else b) +ℤ pos (unsigned_abs (b -ℤ a) / 2)
 
--- The test whether some tie from p goes to q.
-unfoldable pub is_tie_point : (p q neighbour : Point) → Bool
-is_tie_point p q neighbour =
-    is_tie_point_by p q neighbour (range_with_len MIN_TIE (MAX_TIE + 1 - MIN_TIE))
+-- The point halfway between two, each coordinate rounded down.
+abbrev pub halfway_point : Point → Point → Point
+halfway_point p q = record { x = halfway p.x q.x; y = halfway p.y q.y }

@@ -1,134 +1,94 @@
 ghost use Rattle.design_model.specs.Acts.{acts_of, acts_without_numbers};
-ghost use Rattle.design_model.specs.declared.act.Act.{Act as ActValue};
 ghost use Rattle.design_rewrites.specs.Rewrites.{IsRewritten};
-ghost use Rattle.design_rewrites.specs.WrittenActs.{AreActsInRange};
-ghost use Rattle.std.specs.Prelude.{◌≡◌, ◌∷◌, List, IfOk, IfSome, None, Some, if◌then◌else◌, option_map};
+ghost use Rattle.std.specs.Prelude.{◌≡◌, IfOk};
 ghost use Rattle.step_splitter.specs.Chains.{IsNeedlePoint};
-ghost use Rattle.sewing_edits.specs.ThreadTies.{after_stitch, after_tie, bared_acts, can_be_tie, tie_length};
+ghost use Rattle.sewing_edits.specs.ThreadRanges.{AreNeedlesInRange};
+ghost use Rattle.sewing_edits.specs.ThreadTies.{are_tie_needles, bared_acts, bared_end, bared_start, bared_thread, has_own_tie, is_tie_length};
 
-use crate::tie_points::is_tie_point;
-use design_model::{Act, Design, NumberedAct, Point};
-use design_rewrites::{ActEdit, RewriteFault, is_thread_end, next_needle, put_act, rewrite};
+use crate::thread_edits::{ThreadEdit, edit_threads};
+use crate::tie_points::{MAX_TIE_LENGTH, MIN_TIE, halfway_point};
+use design_model::{Design, Memory, square_between};
+use design_review::{ThreadNeedle, ThreadNeedles, backwards};
+use design_rewrites::RewriteFault;
 use std::alloc::Global;
 
-/// The state between two acts, while ties are taken away: how many acts of a tie are still left out, and the needle
-/// before in the thread.
-#[derive(Drop)]
-struct Baring {
-    skip: u32,
-    before: Option<Point>,
-}
-
-/// Returns the design without the ties of its threads, one at each end.
+/// Returns the design without the ties that `tie` sews, one at each end of a thread.
 pub fn bare(alloc: Global, design: &Design) -> Result<Design, RewriteFault>
     ensures value { IsRewritten design.now
         (bared_acts (acts_without_numbers (acts_of design.now))) result }
     ensures acts { IfOk result (λ bared. acts_without_numbers (acts_of bared)
         ≡ bared_acts (acts_without_numbers (acts_of design.now))) }
 {
-    rewrite(
-        alloc,
-        design,
-        Baring {
-            skip: 0,
-            before: None,
-        },
-    )
+    edit_threads(alloc, design, ThreadEdit::Bare)
 }
 
-impl ActEdit for Baring {
-    ghost use Rattle.sewing_edits.specs.ThreadTies.{bared_from};
-    ghost use Rattle.design_rewrites.specs.Threads.{is_before_in_range};
-
-    ghost edited = { λ s. bared_from s.skip s.before };
-
-    ghost is_sound = { λ s. is_before_in_range s.before };
-
-    fn put_next(
-        &mut self,
-        out: &mut Design,
-        act: Act,
-        later: &[NumberedAct],
-    ) -> Result<(), RewriteFault> {
-        if self.skip > 0 {
-            self.skip -= 1;
-            return Ok(());
-        }
-        put_act(out, act)?;
-        match act {
-            Act::Needle { at, .. } => {
-                self.skip = tie_length(self.before, at, later);
-                self.before = Some(at);
-            }
-            Act::Trim | Act::Stop => self.before = None,
-        }
-        Ok(())
-    }
-
-    fn ends(&self) {}
-}
-
-/// Returns the number of needles of the tie of `p` with which the acts after it begin.
-fn tie_length(before: Option<Point>, p: Point, later: &[NumberedAct]) -> u32
-    requires before { IfSome before IsNeedlePoint }
-    requires p { IsNeedlePoint p }
-    requires later { AreActsInRange later.now }
-    ensures { result ≡ tie_length before p (acts_without_numbers later.now) }
+/// Returns the thread without a tie at its start, and then at its end.
+pub fn bared_thread(alloc: Global, thread: &[ThreadNeedle]) -> Result<ThreadNeedles, Memory>
+    requires { AreNeedlesInRange thread.now }
+    ensures value { IfOk result (λ bared. bared ≡ bared_thread thread.now) }
+    ensures in_range { IfOk result (λ bared. AreNeedlesInRange bared) }
 {
-    let q = next_needle(p, later);
-    match after_tie(p, q, later) {
-        Some(rest) if can_be_tie(before, p, q, rest) => 4,
-        _ => 0,
-    }
+    let mut bared = ThreadNeedles::new(alloc);
+    let kept = bared_end(alloc, bared_start(thread))?;
+    bared.append(kept)?;
+    Ok(bared)
 }
 
-fn can_be_tie(before: Option<Point>, p: Point, q: Point, rest: &[NumberedAct]) -> bool
-    requires before { IfSome before IsNeedlePoint }
-    requires p { IsNeedlePoint p }
-    requires rest { AreActsInRange rest.now }
-    ensures { result ≡ can_be_tie before p q (Some (acts_without_numbers rest.now)) }
+fn bared_start(thread: &[ThreadNeedle]) -> &[ThreadNeedle]
+    requires { AreNeedlesInRange thread.now }
+    ensures value { result.now ≡ bared_start thread.now }
+    ensures in_range { AreNeedlesInRange result.now }
 {
-    match before {
-        None => is_tie_point(p, q, next_needle(p, rest)),
-        Some(before) => is_thread_end(rest) && is_tie_point(p, q, before),
-    }
-}
-
-/// Returns the acts after the needles of a tie from `p` to `q`, if they begin with them.
-fn after_tie(p: Point, q: Point, later: &[NumberedAct]) -> Option<&[NumberedAct]>
-    requires { AreActsInRange later.now }
-    ensures value { option_map (λ rest. acts_without_numbers rest.now) result
-        ≡ after_tie p q (acts_without_numbers later.now) }
-    ensures in_range { IfSome result (λ rest. AreActsInRange rest.now) }
-{
-    let once = after_stitch(q, later)?;
-    let back = after_stitch(p, once)?;
-    let twice = after_stitch(q, back)?;
-    after_stitch(p, twice)
-}
-
-/// Returns the acts after a stitch to a point, if they begin with one.
-fn after_stitch(p: Point, later: &[NumberedAct]) -> Option<&[NumberedAct]>
-    requires { AreActsInRange later.now }
-    ensures value { option_map (λ rest. acts_without_numbers rest.now) result
-        ≡ after_stitch p (acts_without_numbers later.now) }
-    ensures in_range { IfSome result (λ rest. AreActsInRange rest.now) }
-{
-    let [next, rest @ ..] = later else {
-        return None;
-    };
-    if is_stitch_to(p, next.act) {
-        Some(rest)
+    if has_own_tie(thread) {
+        &thread[4..]
     } else {
-        None
+        thread
     }
 }
 
-fn is_stitch_to(p: Point, act: Act) -> bool
-    ensures { (rest : List ActValue) → after_stitch p (act ∷ rest) ≡ (if result then Some rest else None) }
+#[tactic(auto, using(crate::proofs::ThreadRangeLemmas::backwards_in_range, crate::proofs::ThreadRangeLemmas::taken_in_range))]
+fn bared_end(alloc: Global, thread: &[ThreadNeedle]) -> Result<&[ThreadNeedle], Memory>
+    requires { AreNeedlesInRange thread.now }
+    ensures value { IfOk result (λ bared. bared.now ≡ bared_end thread.now) }
+    ensures in_range { IfOk result (λ bared. AreNeedlesInRange bared.now) }
 {
-    match act {
-        Act::Needle { at, float } => !float && p == at,
-        Act::Trim | Act::Stop => false,
+    let turned = backwards(alloc, thread)?;
+    if has_own_tie(turned.as_slice()) {
+        return Ok(&thread[..thread.len().saturating_sub(4)]);
     }
+    Ok(thread)
+}
+
+fn has_own_tie(thread: &[ThreadNeedle]) -> bool
+    requires { AreNeedlesInRange thread.now }
+    ensures { result ≡ has_own_tie thread.now }
+{
+    match thread {
+        [a, b, c, d, e, ..] => are_tie_needles(*a, *b, *c, *d, *e),
+        _ => false,
+    }
+}
+
+/// Returns whether five needles are those of a tie.
+fn are_tie_needles(
+    a: ThreadNeedle,
+    b: ThreadNeedle,
+    c: ThreadNeedle,
+    d: ThreadNeedle,
+    e: ThreadNeedle,
+) -> bool
+    requires a { IsNeedlePoint a.at }
+    requires c { IsNeedlePoint c.at }
+    ensures { result ≡ are_tie_needles a b c d e }
+{
+    (!b.float && (!c.float && (!d.float && !e.float)))
+        && ((a.at == e.at && (b.at == d.at && b.at == halfway_point(a.at, c.at)))
+            && is_tie_length(square_between(a.at, c.at)))
+}
+
+fn is_tie_length(square: u128) -> bool
+    ensures { result ≡ is_tie_length square }
+{
+    MIN_TIE as u128 * MIN_TIE as u128 <= square
+        && square <= MAX_TIE_LENGTH as u128 * MAX_TIE_LENGTH as u128
 }

@@ -9,7 +9,7 @@
 //! for x in [0, 20, 40] {
 //!     design.push(Command::Stitch(Point { x, y: 0 }))?;
 //! }
-//! let tied = tie(alloc, &design, 6).ok().ok_or("refused")?;
+//! let tied = tie(alloc, &design, 10).ok().ok_or("refused")?;
 //! assert!(rt; tied.commands().len() > 3);
 //! assert!(rt; bare(alloc, &tied).ok().ok_or("refused")?.commands() == design.commands());
 //! ```
@@ -25,6 +25,7 @@ mod float_theorems;
 mod merges;
 mod needle_theorems;
 mod scales;
+mod thread_edits;
 mod tie_points;
 mod tie_theorems;
 mod tied_threads;
@@ -47,7 +48,7 @@ pub use needle_theorems::{
 pub use scales::{MAX_SCALE, ScaleFault, scale};
 pub use tie_points::{MAX_TIE, MIN_TIE};
 pub use tie_theorems::{
-    bare_keeps_order, bare_takes_ties, bare_undoes_tie, ties_keep_order, ties_lengthen_no_stitch,
-    ties_put_needles_in,
+    all_ends_are_tied, bare_forgets_tie, bare_keeps_order, points_get_few_needles,
+    ties_are_near_ends, ties_keep_order, ties_lengthen_no_stitch, tying_twice_is_once,
 };
 pub use tied_threads::tie;

@@ -1,18 +1,24 @@
-ghost use Rattle.design_model.specs.Points.{is_same_point, move_between, move_size};
+ghost use Rattle.design_model.specs.Points.{move_between, move_size};
 ghost use Rattle.design_model.specs.declared.point.TheConstants.{NEEDLE_LIMIT};
-ghost use Rattle.std.specs.List.{range_with_len};
-ghost use Rattle.std.specs.Prelude.{◌≡◌, ◌*◌, ◌+◌, ◌-◌, ◌-ℤ◌, ◌≤◌, false, min, pos, unsigned_abs};
+ghost use Rattle.std.specs.Prelude.{◌≡◌, ◌*◌, ◌+◌, ◌-◌, ◌+ℤ◌, ◌-ℤ◌, ◌≤◌, IfSome, int_le, pos, unsigned_abs, if◌then◌else◌};
 ghost use Rattle.step_splitter.specs.Chains.{IsNeedlePoint};
-ghost use Rattle.sewing_edits.specs.TiePoints.{coordinate_toward, covered, farthest_part, farthest_point, is_part_within, is_tie_point, is_tie_point_by, nearest_part, point_beside, point_on_stitch, tie_point};
+ghost use Rattle.sewing_edits.specs.ThreadRanges.{AreNeedlesInRange};
+ghost use Rattle.sewing_edits.specs.TiePoints.{coordinate_after, halfway, is_far, halfway_point, part_down, part_up, point_along, point_beside, point_beyond, point_on_span, point_on_stitch, tie_point};
 
 use design_model::{Point, square_between};
+use design_review::ThreadNeedle;
 
-/// The least reach of a tie, in tenths of a millimetre. One of a single tenth would not leave the hole on a slanted
-/// stitch.
-pub const MIN_TIE: u32 = 2;
+/// The least length of a tie, from p to q, in tenths of a millimetre.
+pub const MIN_TIE: u32 = 8;
 
-/// The greatest reach of a tie, in tenths of a millimetre.
-pub const MAX_TIE: u32 = 20;
+/// The greatest length that a tie can be given, in tenths of a millimetre.
+pub const MAX_TIE: u32 = 18;
+
+/// The greatest length of a tie: q can be up to a step beyond the length that the tie was given.
+pub const MAX_TIE_LENGTH: u32 = 20;
+
+/// How far the needles of a tie are at most from the end of a thread, in tenths of a millimetre.
+pub const TIE_REACH: u32 = 20;
 
 /// A segment on one axis, from one coordinate to another.
 #[derive(Clone, Copy)]
@@ -21,134 +27,98 @@ struct AxisSpan {
     to: i32,
 }
 
-/// Returns the point to which a tie goes from `p`, at most `reach` tenths of a millimetre away.
-pub fn tie_point(reach: u32, p: Point, neighbour: Point) -> Point
-    requires reach { reach ≤ MAX_TIE }
+/// Returns the point q of a tie of `p`, the first needle of a thread: at least `length` tenths of a millimetre from it.
+pub fn tie_point(length: u32, p: Point, rest: &[ThreadNeedle]) -> Point
+    requires length { length ≤ MAX_TIE }
     requires p { IsNeedlePoint p }
-    requires neighbour { IsNeedlePoint neighbour }
-    ensures value { result ≡ tie_point reach p neighbour }
+    requires rest { AreNeedlesInRange rest.now }
+    ensures value { result ≡ tie_point length p rest.now }
     ensures in_range { IsNeedlePoint result }
 {
-    if p == neighbour {
-        return point_beside(reach, p);
+    match point_along(length, p, rest) {
+        Some(q) => q,
+        None => point_beside(length, p),
     }
-    farthest_point(reach, p, neighbour)
 }
 
-/// Returns whether some tie from `p` goes to `q`.
-#[tactic(auto, unfolding(crate::specs::TiePoints::is_tie_point))]
-pub fn is_tie_point(p: Point, q: Point, neighbour: Point) -> bool
+fn point_along(length: u32, p: Point, rest: &[ThreadNeedle]) -> Option<Point>
+    requires length { length ≤ MAX_TIE }
     requires p { IsNeedlePoint p }
-    requires neighbour { IsNeedlePoint neighbour }
-    ensures { result ≡ is_tie_point p q neighbour }
+    requires rest { AreNeedlesInRange rest.now }
+    ensures value { result ≡ point_along length p p rest.now }
+    ensures in_range { IfSome result IsNeedlePoint }
 {
-    is_tie_point_by(p, q, neighbour, MIN_TIE, MAX_TIE + 1)
+    let mut before = p;
+    let mut left = rest;
+    while let [next, later @ ..] = left {
+        if let Some(q) = point_on_span(length, p, before, next.at) {
+            return Some(q);
+        }
+        before = next.at;
+        left = later;
+    }
+    None
 }
 
-/// Returns whether a tie from `p` goes to `q` by some reach from `least` to below `end`.
-#[tactic(auto, using(crate::proofs::Names::next_range))]
-fn is_tie_point_by(p: Point, q: Point, neighbour: Point, least: u32, end: u32) -> bool
+fn point_on_span(length: u32, p: Point, from: Point, to: Point) -> Option<Point>
+    requires length { length ≤ MAX_TIE }
     requires p { IsNeedlePoint p }
-    requires neighbour { IsNeedlePoint neighbour }
-    requires least { least ≤ end }
-    requires end { end ≤ MAX_TIE + 1 }
-    ensures { result ≡ is_tie_point_by p q neighbour (range_with_len least (end - least)) }
+    requires from { IsNeedlePoint from }
+    requires to { IsNeedlePoint to }
+    ensures value { result ≡ point_on_span length p from to }
+    ensures in_range { IfSome result IsNeedlePoint }
 {
-    for reach in least..end {
-        if q == tie_point(reach, p, neighbour) {
-            return true;
+    point_beyond(length, p, from, to, longer_axis(from, to))
+}
+
+/// Returns the first point after one of `n` parts of a stitch that is at least `length` tenths of a millimetre from `p`.
+#[tactic(auto, using(crate::proofs::TiePointLemmas::beyond_is, crate::proofs::TiePointLemmas::beyond_next, crate::proofs::TiePointLemmas::none_beyond))]
+fn point_beyond(length: u32, p: Point, from: Point, to: Point, n: u32) -> Option<Point>
+    requires length { length ≤ MAX_TIE }
+    requires from { IsNeedlePoint from }
+    requires to { IsNeedlePoint to }
+    requires few { n ≤ 2 * NEEDLE_LIMIT }
+    ensures value { result ≡ point_beyond length p from to n n }
+    ensures in_range { IfSome result IsNeedlePoint }
+{
+    let mut left = n;
+    while left > 0 {
+        left -= 1;
+        let q = point_on_stitch(from, to, n, n - left);
+        if is_far(length, p, q) {
+            return Some(q);
         }
     }
-    false
+    None
 }
 
-fn point_beside(reach: u32, p: Point) -> Point
-    requires reach { reach ≤ MAX_TIE }
-    requires p { IsNeedlePoint p }
-    ensures value { result ≡ point_beside reach p }
-    ensures in_range { IsNeedlePoint result }
+fn is_far(length: u32, p: Point, q: Point) -> bool
+    requires length { length ≤ MAX_TIE }
+    ensures { result ≡ is_far length p q }
 {
-    point_at(beside(p.x, reach), p.y)
-}
-
-/// Returns the farthest point within reach on the stitch from `p` to `q`.
-#[tactic(auto, using(crate::proofs::PointLemmas::apart))]
-fn farthest_point(reach: u32, p: Point, q: Point) -> Point
-    requires reach { reach ≤ MAX_TIE }
-    requires p { IsNeedlePoint p }
-    requires q { IsNeedlePoint q }
-    requires differ { is_same_point p q ≡ false }
-    ensures value { result ≡ farthest_point reach p q }
-    ensures in_range { IsNeedlePoint result }
-{
-    let n = longer_axis(p, q);
-    let i = farthest_part(reach, p, q, n, reach.min(n));
-    point_on_stitch(p, q, n, i)
+    square_between(p, q) >= length as u128 * length as u128
 }
 
 fn longer_axis(p: Point, q: Point) -> u32
-    ensures { result ≡ move_size (move_between p q) }
+    requires p { IsNeedlePoint p }
+    requires q { IsNeedlePoint q }
+    ensures value { result ≡ move_size (move_between p q) }
+    ensures few { result ≤ 2 * NEEDLE_LIMIT }
 {
     q.x.abs_diff(p.x).max(q.y.abs_diff(p.y))
-}
-
-/// Returns the greatest number of parts, at most `most`, after which a stitch is within reach.
-#[tactic(auto, using(crate::proofs::PointLemmas::farther, crate::proofs::PointLemmas::farthest_is, crate::proofs::PointLemmas::no_part))]
-fn farthest_part(reach: u32, p: Point, q: Point, n: u32, most: u32) -> u32
-    requires reach { reach ≤ MAX_TIE }
-    requires p { IsNeedlePoint p }
-    requires q { IsNeedlePoint q }
-    requires some { 1 ≤ n }
-    requires parts { most ≤ MAX_TIE }
-    requires there { most ≤ n }
-    ensures value { result ≡ farthest_part reach p q n most }
-    ensures few { result ≤ most }
-{
-    let mut i = most;
-    while i > 0 {
-        if is_part_within(reach, p, q, n, i) {
-            return i;
-        }
-        i -= 1;
-    }
-    i
-}
-
-fn is_part_within(reach: u32, p: Point, q: Point, n: u32, i: u32) -> bool
-    requires reach { reach ≤ MAX_TIE }
-    requires p { IsNeedlePoint p }
-    requires q { IsNeedlePoint q }
-    requires some { 1 ≤ n }
-    requires parts { i ≤ MAX_TIE }
-    requires there { i ≤ n }
-    ensures { result ≡ is_part_within reach p q n i }
-{
-    square_between(p, point_on_stitch(p, q, n, i)) <= reach as u128 * reach as u128
-}
-
-/// Returns the distance that is covered after `i` of `n` equal parts, rounded to the nearest.
-fn nearest_part(i: u32, distance: u32, n: u32) -> u32
-    requires distance { distance ≤ 2 * NEEDLE_LIMIT }
-    requires some { 1 ≤ n }
-    requires parts { i ≤ MAX_TIE }
-    requires there { i ≤ n }
-    ensures value { result ≡ nearest_part i distance n }
-    ensures within { result ≤ distance }
-{
-    ((2 * (i as u64 * distance as u64) + n as u64) / (2 * n as u64)) as u32
 }
 
 fn point_on_stitch(p: Point, q: Point, n: u32, i: u32) -> Point
     requires p { IsNeedlePoint p }
     requires q { IsNeedlePoint q }
     requires some { 1 ≤ n }
-    requires parts { i ≤ MAX_TIE }
+    requires few { n ≤ 2 * NEEDLE_LIMIT }
     requires there { i ≤ n }
     ensures value { result ≡ point_on_stitch p q n i }
     ensures in_range { IsNeedlePoint result }
 {
-    let x = coordinate_on(AxisSpan { from: p.x, to: q.x }, n, i);
-    let y = coordinate_on(AxisSpan { from: p.y, to: q.y }, n, i);
+    let x = coordinate_after(AxisSpan { from: p.x, to: q.x }, n, i);
+    let y = coordinate_after(AxisSpan { from: p.y, to: q.y }, n, i);
     point_at(x, y)
 }
 
@@ -161,32 +131,91 @@ fn point_at(x: i32, y: i32) -> Point
     Point { x, y }
 }
 
-fn coordinate_on(span: AxisSpan, n: u32, i: u32) -> i32
+fn coordinate_after(span: AxisSpan, n: u32, i: u32) -> i32
     requires from { unsigned_abs span.from ≤ NEEDLE_LIMIT }
     requires to { unsigned_abs span.to ≤ NEEDLE_LIMIT }
     requires some { 1 ≤ n }
-    requires parts { i ≤ MAX_TIE }
+    requires few { n ≤ 2 * NEEDLE_LIMIT }
     requires there { i ≤ n }
-    ensures value { result ≡ coordinate_toward span.from span.to (covered span.from span.to n i) }
+    ensures value { result ≡ coordinate_after span.from span.to n i }
     ensures within { unsigned_abs result ≤ NEEDLE_LIMIT }
 {
-    let by = nearest_part(i, span.to.abs_diff(span.from), n);
+    let distance = span.to.abs_diff(span.from);
     if span.from <= span.to {
-        span.from + by as i32
+        span.from + part_up(i, distance, n) as i32
     } else {
-        span.from - by as i32
+        span.from - part_down(i, distance, n) as i32
     }
 }
 
-fn beside(from: i32, reach: u32) -> i32
-    requires reach { reach ≤ MAX_TIE }
+/// Returns the distance that is covered after `i` of `n` equal parts, to the nearest, halves up.
+fn part_up(i: u32, distance: u32, n: u32) -> u32
+    requires distance { distance ≤ 2 * NEEDLE_LIMIT }
+    requires some { 1 ≤ n }
+    requires few { n ≤ 2 * NEEDLE_LIMIT }
+    requires there { i ≤ n }
+    ensures value { result ≡ part_up i distance n }
+    ensures within { result ≤ distance }
+{
+    ((2 * (i as u64 * distance as u64) + n as u64) / (2 * n as u64)) as u32
+}
+
+/// Returns the distance that is covered after `i` of `n` equal parts, to the nearest, halves down.
+fn part_down(i: u32, distance: u32, n: u32) -> u32
+    requires distance { distance ≤ 2 * NEEDLE_LIMIT }
+    requires some { 1 ≤ n }
+    requires few { n ≤ 2 * NEEDLE_LIMIT }
+    requires there { i ≤ n }
+    ensures value { result ≡ part_down i distance n }
+    ensures within { result ≤ distance }
+{
+    ((2 * (i as u64 * distance as u64) + n as u64 - 1) / (2 * n as u64)) as u32
+}
+
+fn point_beside(length: u32, p: Point) -> Point
+    requires length { length ≤ MAX_TIE }
+    requires p { IsNeedlePoint p }
+    ensures value { result ≡ point_beside length p }
+    ensures in_range { IsNeedlePoint result }
+{
+    point_at(beside(p.x, length), p.y)
+}
+
+fn beside(from: i32, length: u32) -> i32
+    requires length { length ≤ MAX_TIE }
     requires from { unsigned_abs from ≤ NEEDLE_LIMIT }
-    ensures value { result ≡ coordinate_toward from (pos 0) reach }
+    ensures value { result ≡ (if int_le from (pos 0) then from +ℤ pos length else from -ℤ pos length) }
     ensures within { unsigned_abs result ≤ NEEDLE_LIMIT }
 {
     if from <= 0 {
-        from + reach as i32
+        from + length as i32
     } else {
-        from - reach as i32
+        from - length as i32
+    }
+}
+
+/// Returns the point halfway between two, each coordinate rounded down.
+pub fn halfway_point(p: Point, q: Point) -> Point
+    requires p { IsNeedlePoint p }
+    requires q { IsNeedlePoint q }
+    ensures value { result ≡ halfway_point p q }
+    ensures in_range { IsNeedlePoint result }
+{
+    let x = halfway(AxisSpan { from: p.x, to: q.x });
+    let y = halfway(AxisSpan { from: p.y, to: q.y });
+    point_at(x, y)
+}
+
+fn halfway(span: AxisSpan) -> i32
+    requires from { unsigned_abs span.from ≤ NEEDLE_LIMIT }
+    requires to { unsigned_abs span.to ≤ NEEDLE_LIMIT }
+    ensures value { result ≡ halfway span.from span.to }
+    ensures within { unsigned_abs result ≤ NEEDLE_LIMIT }
+{
+    let half = span.to.abs_diff(span.from) / 2;
+    if span.from <= span.to {
+        span.from + half as i32
+    } else {
+        span.to + half as i32
     }
 }

@@ -1,21 +1,31 @@
-ghost use Rattle.sewing_edits.specs.TieTheorems.{BareKeepsOrder, BareTakesTies, BareUndoesTie, TiesKeepOrder, TiesLengthenNoStitch, TiesPutNeedlesIn};
+ghost use Rattle.sewing_edits.specs.TieTheorems.{AllEndsAreTied, BareForgetsTie, BareKeepsOrder, PointsGetFewNeedles, TiesAreNearEnds, TiesKeepOrder, TiesLengthenNoStitch, TyingTwiceIsOnce};
 
-/// Theorem: to take ties away restores what was tied, for all acts.
-pub fn bare_undoes_tie()
-    ensures { BareUndoesTie }
+/// Theorem: to tie a design again changes nothing.
+pub fn tying_twice_is_once()
+    ensures { TyingTwiceIsOnce }
 {}
 
-/// Theorem: ties put needles in, each within the reach of its end.
-pub fn ties_put_needles_in()
-    ensures { TiesPutNeedlesIn }
+/// Theorem: to take ties away gives the same before and after tying.
+pub fn bare_forgets_tie()
+    ensures { BareForgetsTie }
 {}
 
-/// Theorem: what is taken away are needles, each within the greatest reach of the one after which it was.
-pub fn bare_takes_ties()
-    ensures { BareTakesTies }
+/// Theorem: a tied design has all ends of its threads tied.
+pub fn all_ends_are_tied()
+    ensures { AllEndsAreTied }
 {}
 
-/// Theorem: where each end of a thread has a stitch, ties make no stitch longer.
+/// Theorem: no point gets more than four needles by the ties of a thread.
+pub fn points_get_few_needles()
+    ensures { PointsGetFewNeedles }
+{}
+
+/// Theorem: the needles of ties are near the ends of their thread.
+pub fn ties_are_near_ends()
+    ensures { TiesAreNearEnds }
+{}
+
+/// Theorem: no stitch of a tie is longer than 1.2 mm.
 pub fn ties_lengthen_no_stitch()
     ensures { TiesLengthenNoStitch }
 {}

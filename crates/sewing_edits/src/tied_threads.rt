@@ -1,161 +1,113 @@
 ghost use Rattle.design_model.specs.Acts.{acts_of, acts_without_numbers};
-ghost use Rattle.design_model.specs.declared.act.Act.{Act as ActValue};
-ghost use Rattle.design_model.specs.declared.act.Act.TheVariants as act;
 ghost use Rattle.design_rewrites.specs.Rewrites.{IsRewritten};
-ghost use Rattle.design_rewrites.specs.WrittenActs.{AreActsInRange, WritesActs};
-ghost use Rattle.std.specs.Prelude.{◌≡◌, ◌≤◌, ◌∷◌, ◌++◌, List, IfOk, IfSome, false};
+ghost use Rattle.std.specs.Prelude.{◌≡◌, ◌≤◌, IfOk};
 ghost use Rattle.step_splitter.specs.Chains.{IsNeedlePoint};
-ghost use Rattle.step_splitter.specs.Refits.{needles_at};
-ghost use Rattle.sewing_edits.specs.ThreadTies.{tie_after, tie_needles, tied_acts, tied_from};
-ghost use Rattle.sewing_edits.specs.declared.tie_points.TheConstants.{MIN_TIE, MAX_TIE};
+ghost use Rattle.sewing_edits.specs.ThreadRanges.{AreNeedlesInRange};
+ghost use Rattle.sewing_edits.specs.ThreadTies.{end_tie, is_single, sewn_to, start_tie, tie_needles, tie_of, tied_acts, tied_thread};
+ghost use Rattle.sewing_edits.specs.declared.tie_points.TheConstants.{MAX_TIE, MIN_TIE};
 
-use crate::tie_points::tie_point;
-use design_model::{Act, Design, NumberedAct, Point};
-use design_rewrites::{ActEdit, RewriteFault, is_thread_end, next_needle, put_act, rewrite};
+use crate::thread_edits::{ThreadEdit, edit_threads};
+use crate::tie_points::{TIE_REACH, halfway_point, tie_point};
+use design_model::{Design, Memory, Point};
+use design_review::{ThreadNeedle, ThreadNeedles, backwards, is_tied};
+use design_rewrites::RewriteFault;
 use std::alloc::Global;
 
-/// Ties between two acts: their reach, and the needle before in the thread.
-#[derive(Drop)]
-struct Ties {
-    reach: u32,
-    before: Option<Point>,
-}
-
-/// Returns the design with a tie at each end of each thread, which goes at most `reach` tenths of a millimetre away
-/// from the end.
-pub fn tie(alloc: Global, design: &Design, reach: u32) -> Result<Design, RewriteFault>
-    requires low { MIN_TIE ≤ reach }
-    requires high { reach ≤ MAX_TIE }
+/// Returns the design with a tie at each end of a thread that isn't tied. A tie goes at least `length` tenths of a
+/// millimetre along the thread, and less than two more.
+pub fn tie(alloc: Global, design: &Design, length: u32) -> Result<Design, RewriteFault>
+    requires low { MIN_TIE ≤ length }
+    requires high { length ≤ MAX_TIE }
     ensures value { IsRewritten design.now
-        (tied_acts reach (acts_without_numbers (acts_of design.now))) result }
+        (tied_acts length (acts_without_numbers (acts_of design.now))) result }
     ensures acts { IfOk result (λ tied. acts_without_numbers (acts_of tied)
-        ≡ tied_acts reach (acts_without_numbers (acts_of design.now))) }
+        ≡ tied_acts length (acts_without_numbers (acts_of design.now))) }
 {
-    rewrite(
-        alloc,
-        design,
-        Ties {
-            reach,
-            before: None,
-        },
-    )
+    edit_threads(alloc, design, ThreadEdit::Tie(length))
 }
 
-/// Adds a needle act, with its tie at an end of a thread.
-#[tactic(auto, using(crate::proofs::Names::acts_next))]
-fn put_tied(
-    out: &mut Design,
-    reach: u32,
-    before: Option<Point>,
-    at: Point,
-    float: bool,
-    later: &[NumberedAct],
-) -> Result<(), RewriteFault>
-    requires reach { reach ≤ MAX_TIE }
-    requires before { IfSome before IsNeedlePoint }
-    requires at { IsNeedlePoint at }
-    requires later { AreActsInRange later.now }
-    ensures { (rest : List ActValue) → WritesActs (act.Needle at float
-        ∷ (needles_at (tie_after reach before at (acts_without_numbers later.now)) ++ rest)) rest
-        out.old result out.new }
+/// Returns the thread with a tie at each end that isn't tied.
+#[tactic(auto, using(crate::proofs::ThreadRangeLemmas::joined_in_range, crate::proofs::ThreadRangeLemmas::turned_in_range))]
+pub fn tied_thread(
+    alloc: Global,
+    length: u32,
+    thread: &[ThreadNeedle],
+) -> Result<ThreadNeedles, Memory>
+    requires length { length ≤ MAX_TIE }
+    requires thread { AreNeedlesInRange thread.now }
+    ensures value { IfOk result (λ tied. tied ≡ tied_thread length thread.now) }
+    ensures in_range { IfOk result (λ tied. AreNeedlesInRange tied) }
 {
-    put_act(out, Act::Needle { at, float })?;
-    put_tie_after(out, reach, before, at, later)
+    let after = end_tie(alloc, length, thread)?.reversed();
+    let mut tied = start_tie(alloc, length, thread)?;
+    tied.append(thread)?;
+    tied.append(after.as_slice())?;
+    Ok(tied)
 }
 
-/// Adds the tie after a needle at an end of a thread.
-fn put_tie_after(
-    out: &mut Design,
-    reach: u32,
-    before: Option<Point>,
-    at: Point,
-    later: &[NumberedAct],
-) -> Result<(), RewriteFault>
-    requires reach { reach ≤ MAX_TIE }
-    requires before { IfSome before IsNeedlePoint }
-    requires at { IsNeedlePoint at }
-    requires later { AreActsInRange later.now }
-    ensures { (rest : List ActValue) → WritesActs
-        (needles_at (tie_after reach before at (acts_without_numbers later.now)) ++ rest) rest
-        out.old result out.new }
+fn start_tie(alloc: Global, length: u32, thread: &[ThreadNeedle]) -> Result<ThreadNeedles, Memory>
+    requires length { length ≤ MAX_TIE }
+    requires thread { AreNeedlesInRange thread.now }
+    ensures value { IfOk result (λ needles. needles ≡ start_tie length thread.now) }
+    ensures in_range { IfOk result (λ needles. AreNeedlesInRange needles) }
 {
-    match before {
-        None => { put_tie(out, at, tie_point(reach, at, next_needle(at, later))) }
-        Some(before) => {
-            if !is_thread_end(later) {
-                return Ok(());
-            }
-            put_tie(out, at, tie_point(reach, at, before))
-        }
+    if is_tied(TIE_REACH, thread) {
+        return Ok(ThreadNeedles::new(alloc));
+    }
+    tie_of(alloc, length, thread)
+}
+
+#[tactic(auto, using(crate::proofs::ThreadRangeLemmas::backwards_in_range))]
+fn end_tie(alloc: Global, length: u32, thread: &[ThreadNeedle]) -> Result<ThreadNeedles, Memory>
+    requires length { length ≤ MAX_TIE }
+    requires thread { AreNeedlesInRange thread.now }
+    ensures value { IfOk result (λ needles. needles ≡ end_tie length thread.now) }
+    ensures in_range { IfOk result (λ needles. AreNeedlesInRange needles) }
+{
+    let turned = backwards(alloc, thread)?;
+    if is_tied(TIE_REACH, turned.as_slice()) || is_single(thread) {
+        return Ok(ThreadNeedles::new(alloc));
+    }
+    tie_of(alloc, length, turned.as_slice())
+}
+
+fn is_single(thread: &[ThreadNeedle]) -> bool
+    ensures { result ≡ is_single thread.now }
+{
+    match thread {
+        [_] => true,
+        _ => false,
     }
 }
 
-/// Adds the needles of a tie from `p` to `q`. Ends of threads are rare, and are kept out of the loop.
-#[cold]
-#[inline(never)]
-#[tactic(auto, using(crate::proofs::Names::acts_next))]
-fn put_tie(out: &mut Design, p: Point, q: Point) -> Result<(), RewriteFault>
-    requires p { IsNeedlePoint p }
-    requires q { IsNeedlePoint q }
-    ensures { (rest : List ActValue) → WritesActs (needles_at (tie_needles p q) ++ rest) rest
-        out.old result out.new }
+/// Returns the needles of a tie before the first needle of a thread.
+fn tie_of(alloc: Global, length: u32, thread: &[ThreadNeedle]) -> Result<ThreadNeedles, Memory>
+    requires length { length ≤ MAX_TIE }
+    requires thread { AreNeedlesInRange thread.now }
+    ensures value { IfOk result (λ needles. needles ≡ tie_of length thread.now) }
+    ensures in_range { IfOk result (λ needles. AreNeedlesInRange needles) }
 {
-    put_there_and_back(out, p, q)?;
-    put_there_and_back(out, p, q)
-}
-
-#[tactic(auto, using(crate::proofs::Names::acts_next))]
-fn put_there_and_back(out: &mut Design, p: Point, q: Point) -> Result<(), RewriteFault>
-    requires p { IsNeedlePoint p }
-    requires q { IsNeedlePoint q }
-    ensures { (rest : List ActValue) → WritesActs (act.Needle q false ∷ act.Needle p false ∷ rest) rest
-        out.old result out.new }
-{
-    put_act(
-        out,
-        Act::Needle {
-            at: q,
-            float: false,
-        },
-    )?;
-    put_act(
-        out,
-        Act::Needle {
-            at: p,
-            float: false,
-        },
-    )
-}
-
-impl ActEdit for Ties {
-    ghost use Rattle.std.specs.Prelude.{◌&&◌, nat_le};
-    ghost use Rattle.sewing_edits.specs.ThreadTies.{tied_from};
-    ghost use Rattle.design_rewrites.specs.Threads.{is_before_in_range};
-    ghost use Rattle.sewing_edits.specs.declared.tie_points.TheConstants.{MAX_TIE};
-
-    ghost edited = { λ s. tied_from s.reach s.before };
-
-    ghost is_sound = { λ s. nat_le s.reach MAX_TIE && is_before_in_range s.before };
-
-    fn put_next(
-        &mut self,
-        out: &mut Design,
-        act: Act,
-        later: &[NumberedAct],
-    ) -> Result<(), RewriteFault> {
-        match act {
-            Act::Needle { at, float } => {
-                put_tied(out, self.reach, self.before, at, float, later)?;
-                self.before = Some(at);
-                Ok(())
-            }
-            Act::Trim | Act::Stop => {
-                put_act(out, act)?;
-                self.before = None;
-                Ok(())
-            }
-        }
+    match thread {
+        [first, rest @ ..] => { tie_needles(alloc, first.at, tie_point(length, first.at, rest)) }
+        [] => Ok(ThreadNeedles::new(alloc)),
     }
+}
 
-    fn ends(&self) {}
+#[tactic(auto, using(crate::proofs::ThreadRangeLemmas::four_in_range))]
+fn tie_needles(alloc: Global, p: Point, q: Point) -> Result<ThreadNeedles, Memory>
+    requires p { IsNeedlePoint p }
+    requires q { IsNeedlePoint q }
+    ensures value { IfOk result (λ needles. needles ≡ tie_needles p q) }
+    ensures in_range { IfOk result (λ needles. AreNeedlesInRange needles) }
+{
+    let h = halfway_point(p, q);
+    let mut needles = ThreadNeedles::new(alloc);
+    needles.append(&[sewn_to(p), sewn_to(h), sewn_to(q), sewn_to(h)])?;
+    Ok(needles)
+}
+
+fn sewn_to(at: Point) -> ThreadNeedle
+    ensures { result ≡ sewn_to at }
+{
+    ThreadNeedle { at, float: false }
 }

@@ -9,17 +9,17 @@ pub const EDITS: &[Edited] = &[
     (
         "edit shop.lst out.lst tie",
         "needles 32 trims 1 stops 2\n",
-        "stitch-list 1\nlabel []\nblock 5\nneedle 0 0\nneedle 7 0\nneedle 0 0\nneedle 7 0\nneedle 0 0\nneedle 30 0\nneedle 60 0\nneedle 53 0\nneedle 60 0\nneedle 53 0\nneedle 60 0\ntrim\nneedle 99 0\nneedle 106 0\nneedle 99 0\nneedle 106 0\nneedle 99 0\nfloat 160 0\nneedle 153 0\nneedle 160 0\nneedle 153 0\nneedle 160 0\nblock 7\nblock 9\nneedle 0 12\nneedle 0 14\nneedle 0 12\nneedle 0 14\nneedle 0 12\nneedle 0 14\nneedle 0 40\nneedle 0 33\nneedle 0 40\nneedle 0 33\nneedle 0 40\nend\n",
+        "stitch-list 1\nlabel []\nblock 5\nneedle 0 0\nneedle 5 0\nneedle 10 0\nneedle 5 0\nneedle 0 0\nneedle 30 0\nneedle 60 0\nneedle 55 0\nneedle 50 0\nneedle 55 0\nneedle 60 0\ntrim\nneedle 99 0\nneedle 104 0\nneedle 109 0\nneedle 104 0\nneedle 99 0\nfloat 160 0\nneedle 155 0\nneedle 150 0\nneedle 155 0\nneedle 160 0\nblock 7\nblock 9\nneedle 0 12\nneedle 0 17\nneedle 0 22\nneedle 0 17\nneedle 0 12\nneedle 0 14\nneedle 0 40\nneedle 0 35\nneedle 0 30\nneedle 0 35\nneedle 0 40\nend\n",
     ),
     (
-        "edit shop.lst out.lst tie=2",
+        "edit shop.lst out.lst tie=8",
         "needles 32 trims 1 stops 2\n",
-        "stitch-list 1\nlabel []\nblock 5\nneedle 0 0\nneedle 2 0\nneedle 0 0\nneedle 2 0\nneedle 0 0\nneedle 30 0\nneedle 60 0\nneedle 58 0\nneedle 60 0\nneedle 58 0\nneedle 60 0\ntrim\nneedle 99 0\nneedle 101 0\nneedle 99 0\nneedle 101 0\nneedle 99 0\nfloat 160 0\nneedle 158 0\nneedle 160 0\nneedle 158 0\nneedle 160 0\nblock 7\nblock 9\nneedle 0 12\nneedle 0 14\nneedle 0 12\nneedle 0 14\nneedle 0 12\nneedle 0 14\nneedle 0 40\nneedle 0 38\nneedle 0 40\nneedle 0 38\nneedle 0 40\nend\n",
+        "stitch-list 1\nlabel []\nblock 5\nneedle 0 0\nneedle 4 0\nneedle 8 0\nneedle 4 0\nneedle 0 0\nneedle 30 0\nneedle 60 0\nneedle 56 0\nneedle 52 0\nneedle 56 0\nneedle 60 0\ntrim\nneedle 99 0\nneedle 103 0\nneedle 107 0\nneedle 103 0\nneedle 99 0\nfloat 160 0\nneedle 156 0\nneedle 152 0\nneedle 156 0\nneedle 160 0\nblock 7\nblock 9\nneedle 0 12\nneedle 0 16\nneedle 0 20\nneedle 0 16\nneedle 0 12\nneedle 0 14\nneedle 0 40\nneedle 0 36\nneedle 0 32\nneedle 0 36\nneedle 0 40\nend\n",
     ),
     (
-        "edit shop.lst out.lst tie=20",
+        "edit shop.lst out.lst tie=18",
         "needles 32 trims 1 stops 2\n",
-        "stitch-list 1\nlabel []\nblock 5\nneedle 0 0\nneedle 20 0\nneedle 0 0\nneedle 20 0\nneedle 0 0\nneedle 30 0\nneedle 60 0\nneedle 40 0\nneedle 60 0\nneedle 40 0\nneedle 60 0\ntrim\nneedle 99 0\nneedle 119 0\nneedle 99 0\nneedle 119 0\nneedle 99 0\nfloat 160 0\nneedle 140 0\nneedle 160 0\nneedle 140 0\nneedle 160 0\nblock 7\nblock 9\nneedle 0 12\nneedle 0 14\nneedle 0 12\nneedle 0 14\nneedle 0 12\nneedle 0 14\nneedle 0 40\nneedle 0 20\nneedle 0 40\nneedle 0 20\nneedle 0 40\nend\n",
+        "stitch-list 1\nlabel []\nblock 5\nneedle 0 0\nneedle 9 0\nneedle 18 0\nneedle 9 0\nneedle 0 0\nneedle 30 0\nneedle 60 0\nneedle 51 0\nneedle 42 0\nneedle 51 0\nneedle 60 0\ntrim\nneedle 99 0\nneedle 108 0\nneedle 117 0\nneedle 108 0\nneedle 99 0\nfloat 160 0\nneedle 151 0\nneedle 142 0\nneedle 151 0\nneedle 160 0\nblock 7\nblock 9\nneedle 0 12\nneedle 0 21\nneedle 0 30\nneedle 0 21\nneedle 0 12\nneedle 0 14\nneedle 0 40\nneedle 0 31\nneedle 0 22\nneedle 0 31\nneedle 0 40\nend\n",
     ),
     (
         "edit shop.lst out.lst bare",
@@ -115,7 +115,7 @@ pub const EDITS: &[Edited] = &[
     (
         "edit single.lst out.lst tie",
         "needles 16 trims 1 stops 0\n",
-        "stitch-list 1\nlabel []\nblock 5\nneedle 0 0\nneedle 7 0\nneedle 0 0\nneedle 7 0\nneedle 0 0\nneedle 30 0\nneedle 60 0\nneedle 53 0\nneedle 60 0\nneedle 53 0\nneedle 60 0\ntrim\nneedle 99 0\nneedle 92 0\nneedle 99 0\nneedle 92 0\nneedle 99 0\nend\n",
+        "stitch-list 1\nlabel []\nblock 5\nneedle 0 0\nneedle 5 0\nneedle 10 0\nneedle 5 0\nneedle 0 0\nneedle 30 0\nneedle 60 0\nneedle 55 0\nneedle 50 0\nneedle 55 0\nneedle 60 0\ntrim\nneedle 99 0\nneedle 94 0\nneedle 89 0\nneedle 94 0\nneedle 99 0\nend\n",
     ),
     (
         "edit single.lst out.lst tie bare",
@@ -171,7 +171,7 @@ pub const RUNS: &[Run] = &[
     misused!("edit shop.lst out.pec thumbnails=1" =>
         "stitch_design: thumbnails=1: not an edit\n"),
     misused!("edit shop.lst out.lst tie=1" =>
-        "stitch_design: tie=1: from 2 to 20\n"),
+        "stitch_design: tie=1: from 8 to 18\n"),
     misused!("edit shop.lst out.lst cut=60001" =>
         "stitch_design: cut=60001: from 0 to 60000\n"),
     misused!("edit shop.lst out.lst float=0" =>
