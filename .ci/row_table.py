@@ -1279,11 +1279,18 @@ row("a spaced line", {"a.rw": rw(3, "step 25", "color 1", "line 0 0 6 0 12 1 18 
          "points 9 to 3 stitches 8 to 2 shortest 6 to 24 longest 6 to 24 pieces 1\n",
          {"b.rw": rw(2, "step 25", "color 1", "line 0 0 24 1 48 5")}))
 
+
+def slanted_line(number):
+    """A line of 0.5 mm, 10 mm from the one with the number before on the same slanted line."""
+    return f"line {60 * number} {80 * number} {60 * number + 3} {80 * number + 4}"
+
+
 # The star has four odd junctions. Its two longest lines are sewn once, from tip to tip.
 row("free ends, and less travel", {
     "a.rw": rw(2, "step 10", "color 1", "line 0 0 30 0", "line 0 0 0 20", "line 0 0 -20 0", "line 0 0 0 -10"),
     "b.rw": rw(2, "step 10", "color 1", "line 0 0 30 0", "line 200 0 210 0", "line 50 0 60 0"),
-    "c.rw": rw(1, "step 20", "color 1", "line 0 0 8 0 16 0", "line 8 0 8 5")},
+    "c.rw": rw(1, "step 20", "color 1", "line 0 0 8 0 16 0", "line 8 0 8 5"),
+    "g.rw": rw(2, "step 10", "color 1", *[slanted_line(k) for k in (4, 3, 5, 2, 6, 1, 7, 0, 8)])},
     done("stitch_drawing free a.rw d.rw", text("block 1 piece 1 start -20 0 end 30 0 penetrations 17 to 12",
                                                "penetrations 17 to 12 pieces 1"),
          {"d.rw": rw(3, "step 10", "color 1", "line 0 0 30 0", "line 0 0 0 20", "line 0 0 -20 0", "line 0 0 0 -10",
@@ -1291,6 +1298,9 @@ row("free ends, and less travel", {
     done("stitch_drawing near b.rw e.rw", "travel 350 to 170 pieces 3\n",
          {"e.rw": rw(3, "step 10", "color 1", "line 200 0 210 0", "line 50 0 60 0", "line 0 0 30 0", "start 200 0",
                      "start 60 0", "start 30 0")}),
+    done("stitch_drawing near g.rw h.rw", "travel 3600 to 795 pieces 9\n",
+         {"h.rw": rw(3, "step 10", "color 1", *[slanted_line(k) for k in range(8, -1, -1)], "start 480 640",
+                     *[f"start {60 * k + 3} {80 * k + 4}" for k in range(7, -1, -1)])}),
     refused("stitch_drawing free c.rw e.rw", "c.rw: redwork 1 can't be kept: migrate it first"),
     refused("stitch_drawing near c.rw e.rw", "c.rw: redwork 1 can't be kept: migrate it first"))
 

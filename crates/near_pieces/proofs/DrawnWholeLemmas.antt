@@ -1,25 +1,23 @@
 -- Lines that are drawn in the order of their blocks, and of which none is cut, are the lines of the drawing.
-use Rattle.std.proofs.Common.{◌≡◌, ◌∙◌, ◌==◌, ◌<◌, ◌≤◌, inl, inr, ℕ, suc, Bool, true, false, ◌&&◌, List, [], ◌∷◌, ◌++◌, length, map, slice_get, Option, Some, None, Result, Ok, Err, if◌then◌else◌, nat_lt, All, refl, ap, sym, subst, arith}
+use Rattle.std.proofs.Common.{◌≡◌, ◌∙◌, ◌==◌, ◌<◌, ◌≤◌, ℕ, Bool, true, false, ◌&&◌, List, [], ◌∷◌, ◌++◌, length, map, slice_get, Option, Some, None, Result, Ok, Err, if◌then◌else◌, nat_lt, All, refl, ap, sym, subst, arith}
 use Rattle.std.proofs.lemmas.List.Elements.{All-append, All-cons, All-head, All-nil, All-tail}
 use Rattle.std.proofs.lemmas.List.{length-append}
 use Rattle.std.proofs.lemmas.List.Concat.{flat_map-cons}
 use Rattle.std.proofs.lemmas.List.Sorted.{IsPermutation-refl}
-use Rattle.std.specs.List.{concat, flat_map}
-use Rattle.std.specs.List.Sorted.{IsNonDecreasing}
+use Rattle.std.specs.List.{flat_map}
 use Rattle.design_model.proofs.ListLemmas.{same_number}
 use Rattle.drawing_edits.proofs.CallerLemmas.{joined_with}
 use Rattle.drawing_edits.specs.RedrawnDrawings.{drawn_lines, with_starts_and_ends}
 use Rattle.drawing_edits.specs.ValidRedraws.{LinesInOrderAreDrawn}
 use Rattle.line_graph.specs.ConnectedSpots.{SpotsAreConnected}
 use Rattle.line_graph.specs.declared.draw_kind.DrawKind.{DrawKind}
-use Rattle.line_graph.specs.Drawings.{KeepsDrawingLimits}
 use Rattle.line_graph.specs.declared.draw_kind.DrawKind.TheVariants as kind
 use Rattle.line_graph.specs.declared.limits.TheConstants.{MAX_LINES, MAX_POINTS}
 use Rattle.line_graph.specs.GrowingDrawings.{and_then, point_count}
 use Rattle.line_graph.specs.JoinedDrawings.{joined_drawing}
 use Rattle.line_graph.specs.PiecesOfDrawings.{ArePiecesOf, lines_of_pieces}
 use Rattle.line_sections.specs.Sections.{all_sections, has_points, is_shared_point, line_sections, lines_through, sections_from, sections_of, sections_with_first}
-use Rattle.near_pieces.proofs.Names.{nat_tests, and_parts, get_or_from_slice_get, length-map, slice_get_within, slice_get-get_or, Point, DrawingValue, Spot, LineValue, NearDrawing, Piece, AreNearLines, IsFoundFrom, IsLesser, IsNear, are_in_order, if_there, lines_numbered, rises_from}
+use Rattle.near_pieces.proofs.Names.{nat_tests, and_parts, get_or_from_slice_get, length-map, slice_get_within, Point, DrawingValue, Spot, LineValue, Piece, IsFoundFrom, IsLesser, are_in_order, if_there, lines_numbered, rises_from}
 use Rattle.near_pieces.proofs.PieceOrderLemmas.{near_lines_are_numbered, near_pieces_stay}
 use Rattle.near_pieces.proofs.RunLemmas.{rising_in_order}
 use Rattle.near_pieces.specs.NearDrawings.{are_drawn_whole, drawn_with}

@@ -1,6 +1,9 @@
 pub mod Names
 pub mod NodeLemmas
-pub mod MoveLemmas
+pub mod RootLemmas
+pub mod StopLemmas
+pub mod ChangeLemmas
+pub mod TrackLemmas
 pub mod RunLemmas
 pub mod NearLemmas
 pub mod PieceSpanLemmas
@@ -10,6 +13,7 @@ pub mod WalkCostLemmas
 pub mod SameWalkLemmas
 mod TravelFacts
 mod NearFacts
+mod ChangeFacts
 mod NodeFacts
 mod NearDrawingFacts
 mod NearLawFacts

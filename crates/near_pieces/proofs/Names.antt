@@ -5,11 +5,11 @@ pub use Rattle.std.proofs.lemmas.List.{append-nil, length-map}
 pub use Rattle.std.proofs.lemmas.List.Edits.{length-remove}
 pub use Rattle.std.proofs.lemmas.List.Elements.{All-append, All-drop, All-take}
 pub use Rattle.std.proofs.lemmas.List.FromFn.{get_or-range_with_len, length-range_with_len}
-pub use Rattle.std.proofs.lemmas.List.Sorted.{All-permutation, IsPermutation-insert, IsPermutation-more}
-pub use Rattle.std.proofs.lemmas.List.Sorted.{IsPermutation-refl, IsPermutation-remove, IsPermutation-trans}
+pub use Rattle.std.proofs.lemmas.List.Sorted.{All-permutation, IsPermutation-more}
+pub use Rattle.std.proofs.lemmas.List.Sorted.{IsPermutation-refl, IsPermutation-trans}
 pub use Rattle.std.proofs.lemmas.List.Sorted.{length_permutation}
 pub use Rattle.std.proofs.lemmas.Option.{get_or_from_slice_get, slice_get-get_or, slice_get_within}
-pub use Rattle.std.specs.List.{insert, prefix_len, range_with_len, remove}
+pub use Rattle.std.specs.List.{prefix_len, range_with_len, remove}
 pub use Rattle.design_model.specs.declared.point.Point.{Point}
 pub use Rattle.line_graph.specs.declared.piece.Piece.{Piece}
 pub use Rattle.line_graph.specs.Drawings.{DrawingValue}

@@ -1,6 +1,6 @@
 -- Lemmas on the nodes of the search.
 use Rattle.std.proofs.Common.{◌≡◌, ◌∙◌, ◌==◌, ◌≤◌, ◌<◌, ◌+◌, ◌^◌, Bool, true, false, ℕ, zero, suc, List, [], ◌∷◌, ◌++◌, Option, Some, length, take, drop, get_or, slice_get, All, IsPermutation, append_assoc, ap, nat_lt, refl, sym, subst, arith}
-use Rattle.near_pieces.proofs.Names.{nat_tests, append-nil, All-append, All-drop, All-take, get_or-range_with_len, length-range_with_len, length-remove, IsPermutation-more, IsPermutation-refl, get_or_from_slice_get, slice_get-get_or, slice_get_within, range_with_len, remove, Point, Node, VisitOrder, Visit, AreInside, IsLeastAfter, IsMeasured, IsNode, IsNodeAfter, IsTriedUpTo, less_of, node_after, IsOrderOf, given_order, exit_from, travel_in, visit_at, way_to}
+use Rattle.near_pieces.proofs.Names.{nat_tests, append-nil, All-append, All-drop, All-permutation, All-take, get_or-range_with_len, length-range_with_len, length-remove, IsPermutation-more, IsPermutation-refl, length_permutation, get_or_from_slice_get, slice_get-get_or, slice_get_within, range_with_len, remove, Point, Node, VisitOrder, Visit, AreInside, IsLeastAfter, IsMeasured, IsNode, IsNodeAfter, IsTriedUpTo, less_of, node_after, IsOrderOf, given_order, exit_from, travel_in, visit_at, way_to}
 
 -- The indexes of all places are those of places.
 pub all_inside : (visits : List Visit) → All (λ i. i < length visits) (given_order visits)
@@ -123,3 +123,12 @@ less_is_measured visits start n best is none measured = grind (arith, nat_tests,
 
 pub less_is_less : (n : Node) (best : VisitOrder) → ((less_of n best).travel ≤ best.travel) × ((less_of n best).travel ≤ n.travel)
 less_is_less n best = grind (arith, nat_tests)
+
+-- The indexes of an order with each place once are those of places.
+pub order_inside : (visits : List Visit) (order : List ℕ) → IsPermutation (given_order visits) order
+    → All (λ i. i < length visits) order
+order_inside visits order each = All-permutation (λ i. i < length visits) (given_order visits) order each (all_inside visits)
+
+-- An order with each place once has as many indexes as there are places.
+pub order_length : (visits : List Visit) (order : List ℕ) → IsPermutation (given_order visits) order → length order ≡ length visits
+order_length visits order each = omega (arith, length_permutation (given_order visits) order each, length-range_with_len 0 (length visits))

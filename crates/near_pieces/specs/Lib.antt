@@ -1,5 +1,7 @@
 -- Travel through places in an order.
 pub mod Visits
+-- Changes of an order that make the travel less.
+pub mod OrderChanges
 -- All orders of the places that are left.
 pub mod VisitOrders
 -- Pieces as places to be visited.
@@ -10,6 +12,8 @@ pub mod PieceRuns
 pub mod NearLines
 -- Used only inside this crate.
 pub mod Nodes
+pub mod Stops
+pub mod Changes
 pub mod NearSteps
 -- Laws: what stays of the pieces.
 pub mod NearPieceLaws

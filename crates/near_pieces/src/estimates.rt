@@ -1,38 +1,7 @@
 ghost use Rattle.std.specs.Prelude.{◌*◌, ◌<◌, ◌^◌, ◌≤◌, length};
 
-use crate::travelling::{entry, exit};
-use crate::visit::Visit;
-use design_model::{Items, Memory, Point};
-use std::alloc::Global;
-
-/// Where a place is entered and left.
-#[derive(Clone, Copy)]
-pub(crate) struct Stop {
-    enters: Point,
-    leaves: Point,
-}
-
-/// Returns where places are entered and left in an order of their indexes.
-pub(crate) fn stops_of(
-    alloc: Global,
-    visits: &[Visit],
-    start: Option<Point>,
-    order: &[usize],
-) -> Result<Items<Stop>, Memory> {
-    let mut stops = Items::new(alloc);
-    let mut from = start;
-    for index in order {
-        if let Some(visit) = visits.get(*index) {
-            let leaves = exit(from, visit);
-            stops.push(Stop {
-                enters: entry(from, visit),
-                leaves,
-            })?;
-            from = Some(leaves);
-        }
-    }
-    Ok(stops)
-}
+use crate::stop::Stop;
+use design_model::Point;
 
 /// Returns the index to which the place at an index is best moved, if that seems to help. Points are taken as they are
 /// now, and lengths are estimated: whoever moves it compares the travel.

@@ -12,10 +12,12 @@
 //! ```
 #![tactic(auto)]
 
+mod changes;
 mod drawn_whole;
 mod estimates;
 mod exhaustive;
-mod moved_visits;
+mod least_travel;
+mod local_search;
 mod near_choices;
 mod near_drawing;
 mod near_lines;
@@ -26,6 +28,8 @@ mod piece_places;
 mod piece_runs;
 mod redrawn_lines;
 mod start_orders;
+mod stop;
+mod tracks;
 mod travel_totals;
 mod travelling;
 mod visit;

@@ -4,7 +4,7 @@ ghost use Rattle.std.specs.Prelude.{◌<◌, ◌≤◌, length};
 use crate::exhaustive::take_if_less;
 use crate::node::{Node, next_node};
 use crate::ordering::VisitOrder;
-use crate::travelling::{visit_with, way};
+use crate::travelling::{distance, visit_with};
 use crate::visit::Visit;
 use design_model::{Memory, Point};
 use std::alloc::Global;
@@ -38,12 +38,12 @@ fn nearest_index(visits: &[Visit], node: &Node) -> usize
 {
     let left = node.left.as_slice();
     let mut best = 0;
-    let mut least = way(node.from, visit_with(visits, left[0]));
+    let mut least = distance(node.from, visit_with(visits, left[0]));
     for index in 1..left.len() {
-        let travel = way(node.from, visit_with(visits, left[index]));
-        if travel < least {
+        let square = distance(node.from, visit_with(visits, left[index]));
+        if square < least {
             best = index;
-            least = travel;
+            least = square;
         }
     }
     best

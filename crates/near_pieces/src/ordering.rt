@@ -4,7 +4,7 @@ ghost use Rattle.near_pieces.specs.Visits.{travel_in};
 ghost use Rattle.std.specs.Prelude.{◌≡◌, ◌≤◌, IfOk, length};
 
 use crate::exhaustive::search;
-use crate::moved_visits::improve;
+use crate::local_search::settle;
 use crate::near_choices::nearest_next;
 use crate::node::{Node, first_node};
 use crate::travelling::travel_through;
@@ -23,8 +23,8 @@ pub(crate) struct VisitOrder {
 }
 
 /// Returns an order of places with little travel from a point, if there is one: of at most eight places the least
-/// that there is. Of more the better one of the given order and of that in which the nearest comes next, in which
-/// places are moved as long as that helps.
+/// that there is. Of more it is the better one of the given order and of that in which the nearest comes next, changed as
+/// long as that makes the travel less.
 pub(crate) fn order_visits(
     alloc: Global,
     visits: &[Visit],
@@ -40,7 +40,7 @@ pub(crate) fn order_visits(
         search(alloc, visits, start, &node, &mut best)?;
     } else {
         nearest_next(alloc, visits, start, node, &mut best)?;
-        improve(alloc, visits, start, &mut best)?;
+        best = settle(alloc, visits, start, best)?;
     }
     Ok(best)
 }

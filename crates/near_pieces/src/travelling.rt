@@ -54,6 +54,14 @@ pub(crate) fn way(from: Option<Point>, visit: &Visit) -> u128
     }
 }
 
+/// Returns the square of the length of the straight way to a place, in square tenths of a millimetre.
+pub(crate) fn distance(from: Option<Point>, visit: &Visit) -> u128 {
+    match from {
+        Some(at) => square_between(at, entry(from, visit)),
+        None => 0,
+    }
+}
+
 /// Returns the place with an index.
 pub(crate) fn visit_with(visits: &[Visit], index: usize) -> &Visit
     requires { index < length visits.now }
