@@ -1,7 +1,5 @@
 //! A task for each program, and its reply.
-use crate::tasks::{
-    run_stitch_design_task, run_stitch_drawing_task, run_stitch_picture_task, run_stitch_task,
-};
+use crate::{stitch_design_run, stitch_drawing_run, stitch_picture_run, stitch_run};
 use std::test::Fail;
 
 /// `convert a.lst b.lst`.
@@ -47,15 +45,15 @@ fn returned(reply: &[u8], count: usize) -> &[u8] {
 fn each_program_replies(rt: HostRuntime) -> Result<(), Fail> {
     let alloc = rt.alloc();
     let mut reply = [0u8; 200];
-    let count = run_stitch_task(alloc, CONVERT, &mut reply);
+    let count = stitch_run(alloc, CONVERT, &mut reply);
     assert_eq!(rt; returned(&reply, count), CONVERT_REPLY);
-    let count = run_stitch_task(alloc, SHOW, &mut reply);
+    let count = stitch_run(alloc, SHOW, &mut reply);
     assert_eq!(rt; returned(&reply, count), SHOW_REPLY);
-    let count = run_stitch_drawing_task(alloc, SNAP, &mut reply);
+    let count = stitch_drawing_run(alloc, SNAP, &mut reply);
     assert_eq!(rt; returned(&reply, count), SNAP_REPLY);
-    let count = run_stitch_picture_task(alloc, PROVE, &mut reply);
+    let count = stitch_picture_run(alloc, PROVE, &mut reply);
     assert_eq!(rt; returned(&reply, count), PROVE_REPLY);
-    let count = run_stitch_design_task(alloc, MISSING, &mut reply);
+    let count = stitch_design_run(alloc, MISSING, &mut reply);
     assert_eq!(rt; returned(&reply, count), MISSING_REPLY);
     Ok(())
 }
