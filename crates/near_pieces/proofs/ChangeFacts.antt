@@ -4,7 +4,7 @@ use Rattle.near_pieces.proofs.Names.{IsNearOrder, Point, Visit, travel_in}
 use Rattle.design_model.specs.Lengths.{length_of, square_of, whole_root}
 use Rattle.near_pieces.specs.Changes.{moved_in, reversed_in}
 use Rattle.near_pieces.specs.OrderChanges.{IsSettled, most_changed}
-use Rattle.near_pieces.specs.Stops.{needle_through, stops_in, way_between}
+use Rattle.near_pieces.specs.Stops.{needle_through, stops_in, way_from}
 use Rattle.near_pieces.specs.declared.local_search.TheConstants.{MAX_CHANGED, MAX_WHOLE}
 use Rattle.near_pieces.specs.declared.ordering.TheConstants.{MAX_TRIED}
 
@@ -101,6 +101,6 @@ pub known_needle : needle_through three (Some (point 3 4)) (0 ∷ 1 ∷ []) ≡ 
 unfolding square_of
 known_needle = refl
 
-pub known_ways : way_between None (point 30 40) ∷ way_between (Some (point 3 4)) (point 33 44) ∷ [] ≡ 0 ∷ 5000 ∷ []
+pub known_ways : way_from None (point 30 40) ∷ way_from (Some (point 3 4)) (point 33 44) ∷ [] ≡ 0 ∷ 5000 ∷ []
 unfolding length_of square_of whole_root
 known_ways = refl

@@ -3,7 +3,7 @@ use Rattle.std.proofs.Common.{◌≡◌, ◌∙◌, ◌+◌, ◌-◌, ◌<◌, �
 use Rattle.std.proofs.Math.Seq.{drop-cons}
 use Rattle.near_pieces.proofs.Names.{All-take, length-map, Point, Visit, exit_from, travel_in, visit_at, way_to}
 use Rattle.near_pieces.proofs.RootLemmas.{way_below}
-use Rattle.near_pieces.specs.Stops.{IsKnown, IsPart, after_stop, last_reached, needle_through, places, stop_at, stops_in, way_between}
+use Rattle.near_pieces.specs.Stops.{IsKnown, IsPart, after_stop, last_reached, needle_through, places, stop_at, stops_in, way_from}
 use Rattle.near_pieces.specs.Visits.{entry_from}
 use Rattle.near_pieces.specs.declared.stop.Reached.{Reached}
 use Rattle.near_pieces.specs.declared.stop.Stop.{Stop}
@@ -12,7 +12,10 @@ use Rattle.near_pieces.specs.declared.stop.Stop.{Stop}
 pub places_in : (visits : List Visit) (from : Option Point) (travel : ℕ) (order : List ℕ)
     → places (stops_in visits from travel order) ≡ order
 places_in visits from travel [] = refl
-places_in visits from travel (i ∷ rest) = ap (λ (l : List ℕ). i ∷ l) (places_in visits (Some (exit_from from (visit_at visits i))) (travel + way_to from (visit_at visits i)) rest)
+places_in visits from travel (i ∷ rest) =
+    let leaves = exit_from from (visit_at visits i) in
+    let way = way_to from (visit_at visits i) in
+    ap (λ (l : List ℕ). i ∷ l) (places_in visits (Some leaves) (travel + way) rest)
 
 pub length_in : (visits : List Visit) (from : Option Point) (travel : ℕ) (order : List ℕ)
     → length (stops_in visits from travel order) ≡ length order
@@ -24,8 +27,10 @@ pub take_stops : (visits : List Visit) (from : Option Point) (travel : ℕ) (ord
     → take n (stops_in visits from travel order) ≡ stops_in visits from travel (take n order)
 take_stops visits from travel order zero = refl
 take_stops visits from travel [] (suc n) = refl
-take_stops visits from travel (i ∷ rest) (suc n) = ap (λ (l : List Stop). stop_at visits from travel i ∷ l)
-    (take_stops visits (Some (exit_from from (visit_at visits i))) (travel + way_to from (visit_at visits i)) rest n)
+take_stops visits from travel (i ∷ rest) (suc n) =
+    let leaves = exit_from from (visit_at visits i) in
+    let way = way_to from (visit_at visits i) in
+    ap (λ (l : List Stop). stop_at visits from travel i ∷ l) (take_stops visits (Some leaves) (travel + way) rest n)
 
 tail_inside : (count i : ℕ) (rest : List ℕ) → All (λ k. k < count) (i ∷ rest) → All (λ k. k < count) rest
 tail_inside count i rest inside k d below = inside (suc k) d (omega (arith, below))
@@ -35,7 +40,9 @@ drop_stops : (visits : List Visit) (from : Option Point) (travel : ℕ) (order :
 drop_stops visits from travel order zero inside = record { from = from; travel = travel; order = order; is = refl; inside = inside }
 drop_stops visits from travel [] (suc n) inside = record { from = from; travel = travel; order = []; is = refl; inside = inside }
 drop_stops visits from travel (i ∷ rest) (suc n) inside =
-    drop_stops visits (Some (exit_from from (visit_at visits i))) (travel + way_to from (visit_at visits i)) rest n (tail_inside (length visits) i rest inside)
+    let leaves = exit_from from (visit_at visits i) in
+    let way = way_to from (visit_at visits i) in
+    drop_stops visits (Some leaves) (travel + way) rest n (tail_inside (length visits) i rest inside)
 
 pub part_take : (visits : List Visit) (stops : List Stop) (n : ℕ) → IsPart visits stops → IsPart visits (take n stops)
 part_take visits stops n part = record {
@@ -78,9 +85,12 @@ pub last_in : (visits : List Visit) (from : Option Point) (travel : ℕ) (order 
     → last_reached (record { from = from; travel = travel }) (stops_in visits from travel order)
     ≡ record { from = needle_through visits from order; travel = travel + travel_in visits from order }
 last_in visits from travel [] = ap (λ (n : ℕ). let r : Reached = record { from = from; travel = n } in r) (omega arith)
-last_in visits from travel (i ∷ rest) = last_in visits (Some (exit_from from (visit_at visits i))) (travel + way_to from (visit_at visits i)) rest
-    ∙ ap (λ (n : ℕ). let r : Reached = record { from = needle_through visits (Some (exit_from from (visit_at visits i))) rest; travel = n } in r)
-    (omega arith)
+last_in visits from travel (i ∷ rest) =
+    let leaves = exit_from from (visit_at visits i) in
+    let way = way_to from (visit_at visits i) in
+    let later : travel + way + travel_in visits (Some leaves) rest ≡ travel + (way + travel_in visits (Some leaves) rest) = omega arith in
+    last_in visits (Some leaves) (travel + way) rest
+    ∙ ap (λ (n : ℕ). let r : Reached = record { from = needle_through visits (Some leaves) rest; travel = n } in r) later
 
 -- The last of some stops by its index.
 pub last_indexed : (at : Reached) (stops : List Stop) (d : Stop) → 0 < length stops
@@ -99,10 +109,12 @@ pub known_in : (visits : List Visit) (from : Option Point) (travel : ℕ) (order
 known_in visits from travel [] k d below = absurd (omega (arith, below))
 known_in visits from travel (i ∷ rest) zero d below = (travel, refl)
 known_in visits from travel (i ∷ rest) (suc k) d below =
-    known_in visits (Some (exit_from from (visit_at visits i))) (travel + way_to from (visit_at visits i)) rest k d (omega (arith, below))
+    let leaves = exit_from from (visit_at visits i) in
+    let way = way_to from (visit_at visits i) in
+    known_in visits (Some leaves) (travel + way) rest k d (omega (arith, below))
 
 -- The way to a place is that to the point where it is entered.
-pub way_to_entry : (from : Option Point) (v : Visit) → way_to from v ≡ way_between from (entry_from from v)
+pub way_to_entry : (from : Option Point) (v : Visit) → way_to from v ≡ way_from from (entry_from from v)
 way_to_entry None v = refl
 way_to_entry (Some p) v = refl
 
@@ -114,10 +126,11 @@ pub step_on : (visits : List Visit) (stops : List Stop) (index : ℕ) (s : Stop)
     × (after + travel_in visits next (places (drop (index + 1) stops)) ≤ travel + travel_in visits from (places (drop index stops)))
 step_on visits stops index s from next travel after drops next_is more =
     let rest = places (drop (index + 1) stops) in
-    let through : needle_through visits from (places (drop index stops)) ≡ needle_through visits (Some (exit_from from (visit_at visits s.place))) rest =
+    let leaves = exit_from from (visit_at visits s.place) in
+    let through : needle_through visits from (places (drop index stops)) ≡ needle_through visits (Some leaves) rest =
     ap (λ (l : List Stop). needle_through visits from (places l)) drops in
     let whole : travel_in visits from (places (drop index stops))
-    ≡ way_to from (visit_at visits s.place) + travel_in visits (Some (exit_from from (visit_at visits s.place))) rest =
+    ≡ way_to from (visit_at visits s.place) + travel_in visits (Some leaves) rest =
     ap (λ (l : List Stop). travel_in visits from (places l)) drops in (
       ap (λ (p : Option Point). needle_through visits p rest) next_is ∙ sym through,
       omega (arith, more, whole, ap (λ (p : Option Point). travel_in visits p rest) next_is),

@@ -108,12 +108,14 @@ module _ (visits : List Visit) (start : Option Point) (t : Tracks) (is : IsTrack
       let there = there_part visits start t is in
       let first_k = take_first visits start t.there k (there_first visits start t is) in
       let first_j = take_first visits start (take k t.there) j first_k in
+      let a = take i (take j (take k t.there)) in
+      let b = drop i (take j (take k t.there)) in
+      let c = drop j (take k t.there) in
       let whole : places before ++ (places other ++ (places run ++ places last)) ≡ moved_in t.best.order i j k =
       ap (λ (l : List Stop). places l ++ (places other ++ (places run ++ places last))) first_there
-      ∙ ap (λ (l : List Stop). places (take i (take j (take k t.there))) ++ (places l ++ (places run ++ places last))) other_there
-      ∙ ap (λ (l : List Stop). places (take i (take j (take k t.there))) ++ (places (drop j (take k t.there)) ++ (places l ++ places last))) run_there
-      ∙ ap (λ (l : List Stop). places (take i (take j (take k t.there))) ++ (places (drop j (take k t.there))
-      ++ (places (drop i (take j (take k t.there))) ++ places l))) last_there
+      ∙ ap (λ (l : List Stop). places a ++ (places l ++ (places run ++ places last))) other_there
+      ∙ ap (λ (l : List Stop). places a ++ (places c ++ (places l ++ places last))) run_there
+      ∙ ap (λ (l : List Stop). places a ++ (places c ++ (places b ++ places l))) last_there
       ∙ moved_places t.there t.best.order i j k (there_places visits start t is) in
       record {
         first = subst (λ (l : List Stop). l ≡ stops_in visits start 0 (places l)) (sym first_there)
@@ -132,7 +134,8 @@ module _ (visits : List Visit) (start : Option Point) (t : Tracks) (is : IsTrack
       → count ≡ length t.there → all ≡ t.there → front ≡ take j all → last ≡ drop j all → before ≡ take i front → back ≡ t.back
       → most ≡ take (count - i) back → run ≡ drop (count - j) most
       → AreParts visits start t.best.order (reversed_in t.best.order i j) before run last []
-  reversed_parts count all front before run back most last order_ij within count_is all_is front_is last_is before_is back_is most_is run_is =
+  reversed_parts count all front before run back most last run_ij within count_is all_is front_is last_is before_is back_is
+      most_is run_is =
       let n = length t.best.order in
       let same : count ≡ n = count_is ∙ there_length visits start t is in
       let front_there = front_is ∙ ap (take j) all_is in
@@ -143,10 +146,12 @@ module _ (visits : List Visit) (start : Option Point) (t : Tracks) (is : IsTrack
       let run_back : run ≡ drop (n - j) (take (n - i) t.back) =
       run_is ∙ ap (drop (count - j)) most_back ∙ ap (λ (m : ℕ). drop (m - j) (take (n - i) t.back)) same in
       let first_j = take_first visits start t.there j (there_first visits start t is) in
+      let a = take i (take j t.there) in
+      let b = drop (n - j) (take (n - i) t.back) in
       let whole : places before ++ (places run ++ (places last ++ [])) ≡ reversed_in t.best.order i j =
       ap (λ (l : List Stop). places l ++ (places run ++ (places last ++ []))) first_there
-      ∙ ap (λ (l : List Stop). places (take i (take j t.there)) ++ (places l ++ (places last ++ []))) run_back
-      ∙ ap (λ (l : List Stop). places (take i (take j t.there)) ++ (places (drop (n - j) (take (n - i) t.back)) ++ (places l ++ []))) last_there
+      ∙ ap (λ (l : List Stop). places a ++ (places l ++ (places last ++ []))) run_back
+      ∙ ap (λ (l : List Stop). places a ++ (places b ++ (places l ++ []))) last_there
       ∙ reversed_places t.there t.back t.best.order i j (there_places visits start t is) (back_places visits start t is) in
       record {
         first = subst (λ (l : List Stop). l ≡ stops_in visits start 0 (places l)) (sym first_there)
@@ -156,7 +161,7 @@ module _ (visits : List Visit) (start : Option Point) (t : Tracks) (is : IsTrack
         other_is = subst (IsPart visits) (sym last_there) (part_drop visits t.there j (there_part visits start t is));
         last_is = record { from = None; travel = 0; order = []; is = refl; inside = λ k d below. absurd (omega (arith, below)) };
         whole = whole;
-        each = subst (IsPermutation t.best.order) (sym whole) (reversed_keeps_places t.best.order i j order_ij within);
+        each = subst (IsPermutation t.best.order) (sym whole) (reversed_keeps_places t.best.order i j run_ij within);
       }
 
 -- An order in which no step finds less travel is settled.

@@ -1,4 +1,5 @@
--- Changes of an order by the indexes where its runs begin and end. No public clause cites this file.
+-- Changes of an order by the indexes where its runs begin and end. No public clause cites this
+-- file.
 use Rattle.std.specs.Prelude.{◌≡◌, ℕ, ◌+◌, ◌-◌, ◌<◌, ◌≤◌, Bool, true, false, List, ◌++◌, Option, Some, None, drop, length, min, reverse, take}
 use Rattle.design_model.specs.declared.point.Point.{Point}
 use Rattle.near_pieces.specs.declared.ordering.VisitOrder.{VisitOrder}
@@ -35,7 +36,7 @@ abbrev pub AreLeastMovedPast : List Visit → Option Point → VisitOrder → (i
 AreLeastMovedPast visits start best i j end = (k : ℕ) → j < k → k ≤ end
     → best.travel ≤ travel_in visits start (moved_in best.order i j k)
 
--- The same of all runs from index i.
+-- No run from index i has less travel once it is moved past one that ends by an end.
 abbrev pub AreLeastMoved : List Visit → Option Point → VisitOrder → (i end : ℕ) → Type 0
 AreLeastMoved visits start best i end = (j : ℕ) → i < j → j ≤ end
     → AreLeastMovedPast visits start best i j end
@@ -48,7 +49,7 @@ pub record IsLeastFrom (visits : List Visit) (start : Option Point) (best : Visi
   pub reversed : AreLeastReversed visits start best i end
   pub moved : AreLeastMoved visits start best i end
 
--- The same of the runs from the first indexes.
+-- No run from one of the first indexes has less travel once it is reversed or moved.
 abbrev pub IsLeastUpTo : List Visit → Option Point → VisitOrder → ℕ → Type 0
 IsLeastUpTo visits start best count =
     (i : ℕ) → i < count → IsLeastFrom visits start best i

@@ -37,15 +37,15 @@ needle_through visits from (i ∷ rest) =
     needle_through visits (Some (exit_from from (visit_at visits i))) rest
 
 -- The length of the straight way from a point, if there is one.
-abbrev pub way_between : Option Point → Point → ℕ
-way_between None q = 0
-way_between (Some p) q = length_of p q
+abbrev pub way_from : Option Point → Point → ℕ
+way_from None q = 0
+way_from (Some p) q = length_of p q
 
 -- Where the needle is after a stop, and the travel up to there.
 abbrev pub after_stop : Stop → Reached
 after_stop s = record { from = Some s.leaves; travel = s.travel }
 
--- The same after the last one of stops, if there is one.
+-- Where the needle is after the last one of stops, if there is one, and the travel up to there.
 abbrev pub last_reached : Reached → List Stop → Reached
 last_reached at [] = at
 last_reached at (s ∷ rest) = last_reached (after_stop s) rest

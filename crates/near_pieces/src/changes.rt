@@ -3,7 +3,7 @@ ghost use Rattle.near_pieces.specs.Visits.{travel_in};
 ghost use Rattle.std.specs.Prelude.{◌≡◌, ◌<◌, ◌≤◌, ◌+◌, IfOk, length};
 
 use crate::estimates::helps;
-use crate::tracks::{Tracks, less_by};
+use crate::tracks::{Parts, Tracks, less_by};
 use crate::visit::Visit;
 use design_model::{Memory, Point};
 use std::alloc::Global;
@@ -134,7 +134,13 @@ fn less_exchanged(
     let (front, last) = tracks.there.as_slice().split_at(k);
     let (front, other) = front.split_at(j);
     let (before, run) = front.split_at(i);
-    less_by(alloc, visits, start, tracks, before, other, run, last)
+    let parts = Parts {
+        before,
+        one: other,
+        other: run,
+        last,
+    };
+    less_by(alloc, visits, start, tracks, parts)
 }
 
 /// Returns the order in which the run from index `i` to `j` is reversed, if it has less travel.
@@ -163,5 +169,11 @@ fn less_turned(
         .0
         .split_at(count - j)
         .1;
-    less_by(alloc, visits, start, tracks, before, run, last, &[])
+    let parts = Parts {
+        before,
+        one: run,
+        other: last,
+        last: &[],
+    };
+    less_by(alloc, visits, start, tracks, parts)
 }

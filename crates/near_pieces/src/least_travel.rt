@@ -1,5 +1,5 @@
 ghost use Rattle.design_model.specs.Lengths.{length_of};
-ghost use Rattle.near_pieces.specs.Stops.{IsPart, after_stop, last_reached, needle_through, places, way_between};
+ghost use Rattle.near_pieces.specs.Stops.{IsPart, after_stop, last_reached, needle_through, places, way_from};
 ghost use Rattle.near_pieces.specs.Visits.{exit_from, travel_in, visit_at, way_to};
 ghost use Rattle.std.specs.Prelude.{◌≡◌, ◌<◌, ◌≤◌, ◌*◌, ◌+◌, ◌-◌, ◌-ℤ◌, ◌^◌, ◌++◌, Some, length, true, unsigned_abs};
 
@@ -77,7 +77,7 @@ fn step(visits: &[Visit], at: Reached, place: usize) -> Reached
 }
 
 fn least_way(from: Option<Point>, to: Point) -> u128
-    ensures { result ≤ way_between from to }
+    ensures { result ≤ way_from from to }
 {
     match from {
         Some(from) => least_length(from, to),

@@ -50,38 +50,44 @@ pub(crate) fn tracks_of(
     Ok(Tracks { best, there, back })
 }
 
+/// Parts of orders, one after another.
+#[derive(Clone, Copy)]
+pub(crate) struct Parts<'a> {
+    pub before: &'a [Stop],
+    pub one: &'a [Stop],
+    pub other: &'a [Stop],
+    pub last: &'a [Stop],
+}
+
 /// Returns the order that consists of parts of orders one after another, if it has less travel.
 pub(crate) fn less_by(
     alloc: Global,
     visits: &[Visit],
     start: Option<Point>,
     tracks: &Tracks,
-    before: &[Stop],
-    one: &[Stop],
-    other: &[Stop],
-    last: &[Stop],
+    parts: Parts<'_>,
 ) -> Result<Option<Tracks>, Memory>
     requires few { length visits.now ≤ 1024 }
     requires tracks { IsTracks visits.now start tracks.now }
-    requires before { before.now ≡ stops_in visits.now start 0 (places before.now) }
-    requires one { IsPart visits.now one.now }
-    requires other { IsPart visits.now other.now }
-    requires last { IsPart visits.now last.now }
+    requires before { parts.before.now ≡ stops_in visits.now start 0 (places parts.before.now) }
+    requires one { IsPart visits.now parts.one.now }
+    requires other { IsPart visits.now parts.other.now }
+    requires last { IsPart visits.now parts.last.now }
     requires each { IsPermutation tracks.now.best.order
-        (places before.now ++ (places one.now ++ (places other.now ++ places last.now))) }
+        (places parts.before.now ++ (places parts.one.now ++ (places parts.other.now ++ places parts.last.now))) }
     ensures { IfOk result (IsFound visits.now start tracks.now.best (tracks.now.best.travel
         ≤ travel_in visits.now start
-        (places before.now ++ (places one.now ++ (places other.now ++ places last.now))))) }
+        (places parts.entry.before.now ++ (places parts.entry.one.now ++ (places parts.entry.other.now ++ places parts.entry.last.now))))) }
 {
     let first = Reached {
         from: start,
         travel: 0,
     };
-    let at = after_last(first, before);
-    if least_travel(visits, at, one, other, last) >= tracks.best.travel {
+    let at = after_last(first, parts.before);
+    if least_travel(visits, at, parts.one, parts.other, parts.last) >= tracks.best.travel {
         return Ok(None);
     }
-    let order = order_of(alloc, before, one, other, last)?;
+    let order = order_of(alloc, parts)?;
     let new = tracks_of(
         alloc,
         visits,
@@ -97,21 +103,15 @@ pub(crate) fn less_by(
 }
 
 /// Returns the places of parts of orders one after another.
-fn order_of(
-    alloc: Global,
-    before: &[Stop],
-    one: &[Stop],
-    other: &[Stop],
-    last: &[Stop],
-) -> Result<Items<usize>, Memory>
+fn order_of(alloc: Global, parts: Parts<'_>) -> Result<Items<usize>, Memory>
     ensures { IfOk result (λ order. order
-        ≡ places before.now ++ (places one.now ++ (places other.now ++ places last.now))) }
+        ≡ places parts.entry.before.now ++ (places parts.entry.one.now ++ (places parts.entry.other.now ++ places parts.entry.last.now))) }
 {
     let mut order = Items::new(alloc);
-    put_places(before, &mut order)?;
-    put_places(one, &mut order)?;
-    put_places(other, &mut order)?;
-    put_places(last, &mut order)?;
+    put_places(parts.before, &mut order)?;
+    put_places(parts.one, &mut order)?;
+    put_places(parts.other, &mut order)?;
+    put_places(parts.last, &mut order)?;
     Ok(order)
 }
 

@@ -5,7 +5,7 @@ use Rattle.near_pieces.specs.Stops.{IsKnown}
 use Rattle.near_pieces.proofs.tracks.less_by.Goals as goal
 
 pub returns-then-least_travel-tracks : goal.returns-then-least_travel-tracks
-returns-then-least_travel-tracks c = no_more_than_whole c.args.visits.now c.args.start c.args.before.now _ c.after_last-at.result
+returns-then-least_travel-tracks c = no_more_than_whole c.args.visits.now c.args.start c.args.parts.before.now _ c.after_last-at.result
     c.args.tracks.now.best.travel c.least_travel.result c.requires.before c.after_last-at.ensures c.least_travel.ensures
     (omega (arith, c.if-least_travel-tracks.true))
 
