@@ -2,7 +2,7 @@
 import json
 import re
 
-IMPORT = re.compile(r'^import (?:\{ ([\w, ]+) \}|(\w+)) from "\./([\w.]+)";\n', re.M)
+IMPORT = re.compile(r'^import (?:\{ ([\w, ]+) \}|(\w+)) from "(\.{1,2}/[\w.]+)";\n', re.M)
 EXPORT = re.compile(r"^export (?=(?:async )?(?:const|function|class) (\w+))", re.M)
 
 
@@ -32,7 +32,7 @@ def add(path, order, parts, above):
 
 def variable(name):
     """The variable that has what a module exports."""
-    return "$" + re.sub(r"\W", "_", name)
+    return "$" + re.sub(r"\W", "_", name.split("/")[-1])
 
 
 def wrapped(path, source):

@@ -1,8 +1,8 @@
 // What a person does in the page: each of these changes the state.
+import { Stopped } from "../stitch.js";
 import { changedDrawing, sample, trace } from "./commands.js";
 import { STEPS } from "./ready.js";
 import { baseOf, download, kindOfFile, readFiles, textOfBytes } from "./files.js";
-import { Stopped } from "./runner.js";
 import { change, drawn, firstFinish, state } from "./state.js";
 import { text } from "./texts.js";
 import { refusalOf, saidOf } from "./words.js";

@@ -1,8 +1,9 @@
 // Starts the page: the module, the runner, the work that was kept, the views.
+import { Stopped } from "../stitch.js";
 import { isUnsaved, openFiles } from "./actions.js";
 import { useRunner } from "./commands.js";
 import { fill, make } from "./elements.js";
-import { Runner, Stopped } from "./runner.js";
+import { PageRunner } from "./runner.js";
 import { askAgain, change, isStopped, state, useStore } from "./state.js";
 import { statusBar } from "./status_bar.js";
 import { isKept, keepNow, keepSoon, keptWork } from "./storage.js";
@@ -64,7 +65,7 @@ window.addEventListener("unhandledrejection", event => {
 async function start() {
     document.title = text("page.title");
     let bar = null;
-    const runner = new Runner(await moduleOf(part("module")), part("worker"), () => bar?.changed()), work = await keptWork();
+    const runner = new PageRunner(await moduleOf(part("module")), part("worker"), () => bar?.changed()), work = await keptWork();
     bar = statusBar(runner, askAgain);
     useRunner(runner);
     showPage(bar);

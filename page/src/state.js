@@ -5,7 +5,7 @@
 // the topics that the view in front wants, one after another, and for no topic twice whose values are the same. A topic whose values
 // change while it is asked for is dropped, and asked for again: the last one wins. Views show what is known, and can't change the state
 // while they show it.
-import { Stopped } from "./runner.js";
+import { Stopped } from "../stitch.js";
 import { text } from "./texts.js";
 
 export const state = {

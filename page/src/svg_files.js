@@ -1,10 +1,10 @@
 // SVG files as drawings: read once, and made a drawing again whenever an option of the reading changes.
+import { Stopped } from "../stitch.js";
 import { addStep, makeReady, openDrawing } from "./actions.js";
 import { task } from "./commands.js";
 import { scaledText } from "./drawing.js";
 import { mm } from "./elements.js";
 import { baseOf } from "./files.js";
-import { Stopped } from "./runner.js";
 import { change, drawn, state } from "./state.js";
 import { strokesOf } from "./svg_strokes.js";
 import { text } from "./texts.js";
