@@ -15,10 +15,14 @@ DEBIAN_ZSH = share/zsh/vendor-completions
 DOC = share/doc/stitch
 MAINTAINER = Kaouzbrel maintainers <maintainers@users.noreply.kaouzbrel.example>
 
+# The reader of SVG files.
+SVG = $(wildcard python/stitch/svg/*.py)
+
 # The extension of Inkscape: its files, the folder $(1) that they are copied to, and the folders $(2) of the programs for it.
 # Inkscape reads extensions in its own data folder and in that of the user.
-EXTENSION = $(wildcard inkscape/*.inx inkscape/*.py) $(filter-out %_svgelements.py,$(wildcard examples/svg_*.py))
-extend = install -d "$(1)" && install -m 644 $(EXTENSION) "$(1)" && printf '%s\n' $(2) > "$(1)/folders.txt"
+EXTENSION = $(wildcard inkscape/*.inx inkscape/*.py)
+extend = install -d "$(1)/stitch/svg" && install -m 644 $(EXTENSION) "$(1)" && install -m 644 python/stitch/steps.py "$(1)/stitch" && \
+	install -m 644 $(filter-out %_svgelements.py,$(SVG)) "$(1)/stitch/svg" && printf '%s\n' $(2) > "$(1)/folders.txt"
 DIR ?= $(shell inkscape --user-data-directory 2> /dev/null)/extensions
 
 # What the tar file and the folder in it are called, and the folder from which the Debian package is made.
@@ -39,9 +43,11 @@ install -m 644 $(NAMES:%=completions/_%) $(1)/$(2)
 install -m 644 $(NAMES:%=completions/%.fish) $(1)/$(FISH)
 install -m 644 README.md CHANGELOG.md $(1)/$(DOC)
 install -m 644 docs/*.md docs/*.svg docs/*.png $(1)/$(DOC)/docs
-install -d $(1)/share/stitch
+install -d $(1)/share/stitch/stitch/svg
 install -m 755 redwork $(1)/bin
-install -m 644 $(wildcard examples/*svg*.py) inkscape/redwork_programs.py $(1)/share/stitch
+install -m 644 examples/from_svg.py inkscape/redwork_programs.py $(1)/share/stitch
+install -m 644 python/stitch/steps.py $(1)/share/stitch/stitch
+install -m 644 $(SVG) $(1)/share/stitch/stitch/svg
 endef
 
 # The WebAssembly module of the programs, if one is given.
@@ -49,6 +55,7 @@ MODULE ?=
 
 # The library for C and Python: where it is put with its header and pkg-config file, and the kit, which has its heap.
 FOLDER ?= out/library
+PYTHON ?= python3
 KIT = $(dir $(realpath $(shell command -v rt)))..
 define pkgconfig
 prefix=$(abspath $(FOLDER))
@@ -60,7 +67,7 @@ Libs: -L$${prefix}/lib -lstitch
 endef
 export pkgconfig
 
-.PHONY: build built cleared debian help inkscape install library package page tar test uninstall version
+.PHONY: build built cleared debian help inkscape install library package page tar test uninstall version wheel
 build: ## prove and build the programs, in one run of the gate
 	./build
 
@@ -76,10 +83,19 @@ inkscape: ## install the extension of Inkscape into the folder DIR, that of your
 library: ## prove the library and put it with its header and pkg-config file below FOLDER, out/library if not given
 	./build stitch_c
 	install -d "$(FOLDER)/include" "$(FOLDER)/lib/pkgconfig"
-	install -m 644 include/stitch.h "$(FOLDER)/include"
+	sed 's/@VERSION@/$(VERSION)/' include/stitch.h > "$(FOLDER)/include/stitch.h"
 	printf '%s\n' "$$pkgconfig" > "$(FOLDER)/lib/pkgconfig/stitch.pc"
 	$(CC) -shared -o "$(FOLDER)/lib/libstitch.so" -Wl,--whole-archive crates/stitch_c/out/libstitch_c.a \
 		-Wl,--no-whole-archive,--exclude-libs,liblibc_c.a $(KIT)/c/liblibc_c.a
+
+wheel: library ## write a wheel of the package for Python to out/, with the library; it needs pip, setuptools and wheel
+	rm -rf out/wheel out/stitch-*.whl
+	cp -r python out/wheel
+	cp "$(FOLDER)/lib/libstitch.so" out/wheel/stitch
+	echo $(VERSION) > out/wheel/VERSION
+	printf '[bdist_wheel]\nplat_name = linux_%s\n' $$(uname -m) > out/wheel/setup.cfg
+	$(PYTHON) -m pip wheel --quiet --no-index --no-deps --no-build-isolation -w out out/wheel
+	rm -rf out/wheel
 
 uninstall: ## remove what install installed
 	rm -f $(addprefix $(DESTDIR)$(PREFIX)/,$(NAMES:%=bin/%) $(NAMES:%=share/man/man1/%.1) $(NAMES:%=$(BASH)/%))

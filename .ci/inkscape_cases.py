@@ -11,12 +11,11 @@ import xml.etree.ElementTree as ElementTree
 HOME = os.path.dirname(os.path.dirname(os.path.abspath(__file__)))
 FOLDER, WINDOW, *WORDS = sys.argv[1:]
 EXTENSION = os.path.join(FOLDER, "profile", "extensions", "redwork")
-sys.path[:0] = [os.path.join(HOME, "examples"), os.path.join(HOME, "inkscape")]
+sys.path[:0] = [os.path.join(HOME, "python"), os.path.join(HOME, "inkscape")]
 import redwork_layers  # noqa: E402
 import redwork_programs  # noqa: E402
 import svg_by_inkex  # noqa: E402
-import svg_by_svgelements  # noqa: E402
-import svg_drawing  # noqa: E402
+from stitch.svg import by_svgelements, drawing  # noqa: E402
 
 NAMES = ["bird", "name", "wreath", "quilt", "snail"]
 SVG, INKSCAPE = "{http://www.w3.org/2000/svg}", "{http://www.inkscape.org/namespaces/inkscape}"
@@ -83,8 +82,8 @@ def same_points(name):
     """Both libraries give the same drawing."""
     with open(os.path.join(HOME, "examples", name), encoding="utf-8") as file:
         text = file.read()
-    one, other = (svg_drawing.drawing(ElementTree.fromstring(text.encode()), text, library).text
-                  for library in (svg_by_svgelements, svg_by_inkex))
+    one, other = (drawing.drawing(ElementTree.fromstring(text.encode()), text, library).text
+                  for library in (by_svgelements, svg_by_inkex))
     expect(f"{name} by inkex", one, other)
 
 

@@ -12,8 +12,7 @@ import traceback
 HOME, FOLDER = os.path.dirname(os.path.dirname(os.path.abspath(__file__))), sys.argv[1]
 sys.path.insert(0, os.path.join(HOME, "examples"))
 import from_svg  # noqa: E402
-import svg_drawing  # noqa: E402
-import svg_style  # noqa: E402
+from stitch.svg import drawing, style  # noqa: E402
 
 HEAD = ('<svg xmlns="http://www.w3.org/2000/svg" xmlns:xlink="http://www.w3.org/1999/xlink" '
         'xmlns:inkscape="http://www.inkscape.org/namespaces/inkscape" ')
@@ -155,16 +154,16 @@ reports(["#ff0000 thread 5 Red", "#000000 thread 20 Black", "#a01818 thread 5 Re
             "#f00 black rgb(255,0,0) red #a01818 rgb(100%,0%,0%) hsl(0,100%,50%)".split())))
 draws(["color 5", "0 0 20 0", "0 20 20 20", "color 20", "0 10 20 10"],
       '<path stroke="#f00" d="M0 0h2"/><path d="M0 1h2"/><path stroke="rgb(255 0 0 / 1)" d="M0 2h2"/>')
-for number, thread in enumerate(svg_drawing.THREADS, 1):
-    if svg_drawing.thread_of(bytes.fromhex(thread[:6]))[0] != number:
-        wrong(thread, number, svg_drawing.thread_of(bytes.fromhex(thread[:6])))
+for number, thread in enumerate(drawing.THREADS, 1):
+    if drawing.thread_of(bytes.fromhex(thread[:6]))[0] != number:
+        wrong(thread, number, drawing.thread_of(bytes.fromhex(thread[:6])))
 
 # hues go from red by yellow to green and blue: by the definition of CSS, with 255 for 1
 for colour, wanted in (("hsl(120,100%,50%)", (0, 255, 0, 255)), ("hsl(240deg 100% 50% / 50%)", (0, 0, 255, 128)),
                        ("hsl(60,100%,30%)", (153, 153, 0, 255)), ("hsl(-60,100%,30%)", (153, 0, 153, 255)),
                        ("hsl(0,50%,75%)", (223, 159, 159, 255)), ("rgb(1,2,3)", (1, 2, 3, 255))):
-    if svg_style.colour_of(colour, None) != wanted:
-        wrong(colour, wanted, svg_style.colour_of(colour, None))
+    if style.colour_of(colour, None) != wanted:
+        wrong(colour, wanted, style.colour_of(colour, None))
 # the colours that SVG and the palette have by one name; beside them the nearest in a space of seen colour
 for name, number in (
         ("black", 20), ("white", 29), ("red", 5), ("blue", 2), ("yellow", 13), ("orange", 12), ("silver", 16), ("gray", 39),
@@ -340,7 +339,7 @@ for within, apart in ((0.1, 0.5), (0.08, 0.3), (0.3, 2.5)):
         _, lines, report, _ = made(page(inside), f"--within={within}", f"--apart={apart}")
         numbers = [int(word) for word in lines[1].split()[1:]]
         points = [complex(x, y) for x, y in zip(numbers[::2], numbers[1::2])]
-        far = max(min(svg_drawing.beside(10 * complex(*true(math.tau * k / 399)), a, b) for a, b in zip(points, points[1:]))
+        far = max(min(drawing.beside(10 * complex(*true(math.tau * k / 399)), a, b) for a, b in zip(points, points[1:]))
                   for k in range(400))
         gap = max(abs(b - a) for a, b in zip(points, points[1:]))
         if far > 10 * within or gap > 10 * apart:
@@ -393,7 +392,7 @@ def spoiled(text, chance):
     for _ in range(chance.randint(1, 4)):
         kind, at = chance.randrange(6), chance.randrange(len(text) or 1)
         tags, values = list(re.finditer(r"<[^<>]*>", text)), list(re.finditer(r'([\w:-]+)="([^"]*)"', text))
-        numbers = list(re.finditer(svg_style.NUMBER, text))
+        numbers = list(re.finditer(style.NUMBER, text))
         if kind == 0:
             text = text[:at] + chr(chance.randrange(1, 300)) + text[at + 1:]
         elif kind == 1 and tags:
@@ -444,7 +443,7 @@ def same(one, other):
             elif words[0] == "line":
                 yield thread, [complex(int(x), int(y)) for x, y in zip(words[1::2], words[2::2])]
     other = list(lines(other))
-    return all(min((svg_drawing.beside(point, a, b) for t, line in other if t == thread for a, b in zip(line, line[1:])),
+    return all(min((drawing.beside(point, a, b) for t, line in other if t == thread for a, b in zip(line, line[1:])),
                    default=9) <= 1 for thread, points in lines(one) for point in points)
 
 

@@ -16,21 +16,20 @@ Status 0: written, 1: refused, nothing is written, 2: wrong arguments, or svgele
 import os
 import re
 import sys
-import xml.etree.ElementTree as ElementTree
 
 sys.dont_write_bytecode = True
+sys.path.append(os.path.join(os.path.dirname(os.path.abspath(__file__)), "..", "python"))
 try:
-    import svg_by_svgelements as library
-    from svg_drawing import drawing
-    from svg_strokes import TooMuch, plain
-    from svg_style import Refused
+    from stitch.svg import by_svgelements as library
+    from stitch.svg.drawing import RANGES, document, drawing
+    from stitch.svg.strokes import TooMuch, plain
+    from stitch.svg.style import Refused
 except ImportError as why:
     library, MISSING = None, why.name
 
 # The python3 of Debian, which sees Debian's packages.
 DEBIAN = "/usr/bin/python3"
-# The least and the greatest value of each option, and the units in which it may be given, with what they are multiplied by.
-RANGES = {"step": (1, 2047), "within": (0.08, 10), "apart": (0.3, 10), "width": (1, 60000)}
+# The units in which an option may be given, with what they are multiplied by.
 UNITS = {"step": {"": 1}, "within": {"": 1, "mm": 1}, "apart": {"": 1, "mm": 1},
          "width": {"": 1, "mm": 10, "cm": 100, "in": 254}}
 
@@ -79,12 +78,9 @@ def read(name):
     """The root of a document, and its text."""
     try:
         with open(name, "rb") as file:
-            data = file.read()
-        return ElementTree.fromstring(data), data.replace(b"\0", b"").decode("latin-1")
+            return document(file.read())
     except OSError as why:
         raise Refused(f"cannot read it: {why.strerror or why}") from None
-    except (ElementTree.ParseError, ValueError, LookupError) as why:
-        raise Refused(f"not XML: {why}") from None
 
 
 def write(name, text):
@@ -124,7 +120,7 @@ def main(words):
         if sys.executable != DEBIAN and os.access(DEBIAN, os.X_OK):
             os.execv(DEBIAN, [DEBIAN, __file__, *words])
         print("from_svg.py: it needs svgelements: sudo apt install python3-svgelements" if MISSING == "svgelements" else
-              f"from_svg.py: it needs the file {MISSING}.py beside it", file=sys.stderr)
+              f"from_svg.py: it needs the module {MISSING}", file=sys.stderr)
         return 2
     try:
         status, report = run(words)

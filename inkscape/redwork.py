@@ -18,10 +18,11 @@ except ImportError as why:
 
 import svg_by_inkex as library
 from redwork_layers import layer, show_places, show_route
-from redwork_programs import STEPS, Failed, Work
-from svg_drawing import drawing
-from svg_strokes import TooMuch
-from svg_style import Refused
+from redwork_programs import Failed, Work
+from stitch.steps import STEPS
+from stitch.svg.drawing import drawing
+from stitch.svg.strokes import TooMuch
+from stitch.svg.style import Refused
 
 # The first line of the file that has the reason why there is no design.
 REFUSED = "Stitch made no design of the drawing:"

@@ -4,7 +4,7 @@ import math
 
 import inkex
 
-from svg_drawing import THREADS
+from stitch.svg.drawing import THREADS
 
 # The thread between two arrows, and before the first one of a piece.
 APART, FIRST = 50, 25

@@ -13,9 +13,6 @@ MEETING = re.compile(r"block \d+ line (?P<first>\d+)(?: and line (?P<other>\d+))
 SHORT = re.compile(r"block \d+ line (?P<first>\d+)(?P<other>): (?P<what>\d+ stitch(?:es)? shorter than half a step), "
                    r"the first at (?P<x>-?\d+) (?P<y>-?\d+)")
 
-# The commands of stitch_drawing that a dialog offers after a snap, in their order.
-STEPS = ["cross", "space", "free", "near"]
-
 
 class Failed(Exception):
     """What a program refused, or that it isn't there."""

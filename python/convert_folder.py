@@ -4,30 +4,24 @@
     python/convert_folder.py [--split] [--cut] [--overwrite] FOLDER FORMAT OUT
 
 Prints a line for each file: what it became, or why it was refused or skipped; then a sum. Progress is on standard error. A
-file that is there already is skipped, unless --overwrite is given. Exits with 0, with 1 if a file was refused or skipped, and
-with 2, before anything is written, for arguments that request nothing: also if OUT is FOLDER, or if two files would become one.
+file that is there already is skipped, unless --overwrite is given. Ctrl-C stops it after the file that it is at. Exits with 0,
+with 1 if a file was refused or skipped, with 130 if it was stopped, and with 2, before anything is written, for arguments that
+request nothing: also if OUT is FOLDER, or if two files would become one.
 """
 import argparse
 import os
+import signal
 import sys
 
 import stitch
-
-FORMATS = ("dst", "exp", "pec", "pes", "lst")
 
 
 def files_of(folder):
     """The names of the stitch files of a folder with their formats, in order."""
     for name in sorted(os.listdir(folder)):
         ending = name.rpartition(".")[2].lower()
-        if ending in FORMATS:
+        if ending in stitch.FORMATS:
             yield name, ending
-
-
-def converted(path, ending, request):
-    """The content of a file in the requested format."""
-    with open(path, "rb") as file:
-        return stitch.convert(file.read(), ending, request.format, request.split, request.cut)
 
 
 def same_result(names, form):
@@ -45,20 +39,23 @@ def result_of(name, form):
     return f"{name.rpartition('.')[0]}.{form}"
 
 
-def write(path, content, overwrite):
-    """Writes a file, and returns whether it did. Without `overwrite` one that is there stays."""
+def convert(name, request):
+    """Converts a file, and returns what became of it: `converted`, `refused` or `skipped`, and the line that says so."""
+    to = result_of(name, request.format)
     try:
-        with open(path, "wb" if overwrite else "xb") as file:
-            file.write(content)
-        return True
+        design = stitch.open(os.path.join(request.folder, name)).convert(request.format, split=request.split, cut=request.cut)
+        design.save(os.path.join(request.out, to), request.overwrite)
+        return "converted", f"{name}: {to}"
     except FileExistsError:
-        return False
+        return "skipped", f"{name}: {to} is there: skipped"
+    except (stitch.Refused, MemoryError, OSError) as why:
+        return "refused", f"{name}: {why}"
 
 
 def main():
     parser = argparse.ArgumentParser(description="Converts the stitch files of a folder.")
     parser.add_argument("folder")
-    parser.add_argument("format", choices=FORMATS)
+    parser.add_argument("format", choices=stitch.FORMATS)
     parser.add_argument("out")
     parser.add_argument("--split", action="store_true", help="split stitches that are too long")
     parser.add_argument("--cut", action="store_true", help="replace each float by a trim")
@@ -73,22 +70,21 @@ def main():
     if both:
         parser.error(f"{both[0]} and {both[1]} would both become {result_of(both[1], request.format)}: move one of them")
     os.makedirs(request.out, exist_ok=True)
-    refused = skipped = 0
-    for number, (name, ending) in enumerate(names, 1):
+    stopped = []
+    for kind in (signal.SIGINT, signal.SIGTERM):
+        signal.signal(kind, lambda *_: stopped.append(True))
+    counts = dict.fromkeys(("converted", "refused", "skipped"), 0)
+    for number, (name, _) in enumerate(names, 1):
+        if stopped:
+            break
         print(f"\r{number} of {len(names)}", end="", file=sys.stderr, flush=True)
-        to = result_of(name, request.format)
-        try:
-            is_written = write(os.path.join(request.out, to), converted(os.path.join(request.folder, name), ending, request),
-                               request.overwrite)
-        except (stitch.Refused, stitch.Failed) as why:
-            refused += 1
-            print(f"{name}: {why}")
-            continue
-        skipped += not is_written
-        print(f"{name}: {to}" + " is there: skipped" * (not is_written))
+        what, line = convert(name, request)
+        counts[what] += 1
+        print(line, flush=True)
     print(file=sys.stderr)
-    print(f"{len(names)} files, {len(names) - refused - skipped} converted, {refused} refused, {skipped} skipped")
-    return 1 if refused or skipped else 0
+    left = len(names) - sum(counts.values())
+    print(f"{len(names)} files, " + ", ".join(f"{count} {what}" for what, count in counts.items()) + f", {left} left" * bool(left))
+    return 130 if left else int(counts["converted"] < len(names))
 
 
 if __name__ == "__main__":

@@ -1,5 +1,5 @@
 // The drawing of the strokes of an SVG file: its lines as whole points, by threads of the palette, and its text.
-// Lengths are tenths of a millimetre, but for `within` and `apart`: millimetres. The rules are those of examples/svg_drawing.py.
+// Lengths are tenths of a millimetre, but for `within` and `apart`: millimetres. The rules are those of python/stitch/svg/drawing.py.
 import { Refused } from "./refused.js";
 import { linesOf } from "./svg_paths.js";
 import { MAX_POINTS, atExtremes, pointsOf, rounded } from "./svg_points.js";

@@ -1,5 +1,5 @@
 // The whole points of lines: straight pieces by their ends, curves by points that are near enough and close enough.
-// Lengths are tenths of a millimetre. The rules are those of examples/svg_drawing.py.
+// Lengths are tenths of a millimetre. The rules are those of python/stitch/svg/drawing.py.
 import { Refused } from "./refused.js";
 
 // The greatest distance of a curve from its samples.

@@ -1,7 +1,7 @@
 // The visible strokes of an SVG file: their colours, and their lines in tenths of a millimetre.
 //
 // The browser reads the document, its selectors and the names of its colours. Numbers are read here, since a browser keeps
-// those of shapes and points in single precision, and a clone has no elements. The rules are those of examples/svg_strokes.py.
+// those of shapes and points in single precision, and a clone has no elements. The rules are those of python/stitch/svg/strokes.py.
 import { Refused } from "./refused.js";
 import { linesOf } from "./svg_paths.js";
 import { sidesOf } from "./svg_points.js";

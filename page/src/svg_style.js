@@ -1,5 +1,5 @@
 // The properties of the elements of an SVG file, from attributes, styles and style sheets, and their colours.
-// The rules are those of examples/svg_style.py.
+// The rules are those of python/stitch/svg/style.py.
 import { Refused } from "./refused.js";
 
 export const SVG = "http://www.w3.org/2000/svg";

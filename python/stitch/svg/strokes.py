@@ -1,6 +1,6 @@
 """The visible strokes of an SVG file: their colours, and their lines in tenths of a millimetre.
 
-Paths, arcs, transforms and the names of colours are read by a library: svg_by_svgelements.py, or svg_by_inkex.py in Inkscape.
+Paths, arcs, transforms and the names of colours are read by a library: by_svgelements.py, or svg_by_inkex.py in Inkscape.
 A library passes over what it can't read, so the syntax is checked before. The walk over a document of svgelements draws
 symbols that nothing refers to and passes over their viewBox, so the elements are walked over here.
 """
@@ -10,8 +10,8 @@ import unicodedata
 from collections import Counter
 from typing import NamedTuple
 
-from svg_geometry import CLIPPED, PX, Matrix, is_within, moved_lines, sides_of
-from svg_style import INHERITED, NUMBER, Refused, is_clear, is_illustrators, kind_of, number, painted, style_of, style_rules
+from .geometry import CLIPPED, PX, Matrix, is_within, moved_lines, sides_of
+from .style import INHERITED, NUMBER, Refused, is_clear, is_illustrators, kind_of, number, painted, style_of, style_rules
 
 XLINK = "{http://www.w3.org/1999/xlink}"
 LABEL = "{http://www.inkscape.org/namespaces/inkscape}label"

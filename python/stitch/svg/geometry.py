@@ -2,7 +2,7 @@
 import math
 from typing import NamedTuple
 
-from svg_style import Refused
+from .style import Refused
 
 # The length of a px, of which 96 are an inch, in tenths of a millimetre.
 PX = 254 / 96

@@ -1,20 +1,25 @@
 """The drawing of an SVG file: its lines as whole points, by threads of the PEC palette, and its text.
 
-It is shared by from_svg.py and by the extension of Inkscape, which read paths, transforms and colours by different libraries.
+It is shared by Drawing.from_svg, from_svg.py and the extension of Inkscape, which read paths, transforms and colours by different
+libraries.
 """
 import math
+import xml.etree.ElementTree as ElementTree
 from bisect import bisect_left
 from collections import Counter
 from itertools import accumulate
-from typing import NamedTuple
+from types import ModuleType
+from typing import NamedTuple, Optional
 
-from svg_geometry import at_extremes
-from svg_strokes import Reader, plain
-from svg_style import Refused, kind_of
+from .geometry import at_extremes
+from .strokes import Reader, plain
+from .style import Refused, kind_of
 
 # The greatest distance of a curve from its samples, in tenths of a millimetre.
 SAMPLED = 0.04
 LINES, POINTS, STEPS, REACH, BLOCKS = 1024, 65536, 200000, 30000, 255
+# The least and the greatest value of each option, in the units of `drawing`.
+RANGES = {"step": (1, 2047), "within": (0.08, 10), "apart": (0.3, 10), "width": (1, 60000)}
 THREADS = """0e1f7c Prussian Blue,0a55a3 Blue,008777 Teal Green,4b6baf Cornflower Blue,ed171f Red,d15c00 Reddish Brown,
 913697 Magenta,e49acb Light Lilac,915fac Lilac,9ed67d Mint Green,e8a900 Deep Gold,feba35 Orange,ffff00 Yellow,70bc1f Lime Green,
 ba9800 Brass,a8a8a8 Silver,7d6f00 Russet Brown,ffffb3 Cream Brown,4f5556 Pewter,000000 Black,0b3d91 Ultramarine,
@@ -214,19 +219,28 @@ def thread_line(colour):
     return f"#{bytes(colour).hex()} thread {number} {name}"
 
 
-class Drawing(NamedTuple):
+class Drawn(NamedTuple):
     """The text of a drawing, the report on it, what of that is to be heeded, and the label of each line.
 
     The page is the matrix from the document's own units to px.
     """
     text: str
-    report: list
-    notes: list
-    labels: list
-    page: tuple
+    report: "list[str]"
+    notes: "list[str]"
+    labels: "list[str]"
+    page: "tuple[float, ...]"
 
 
-def drawing(root, text, library, step=25, within=0.1, apart=0.5, width=None, centre=False, skip=False):
+def document(data: bytes) -> "tuple[ElementTree.Element, str]":
+    """The root of a document, and its text."""
+    try:
+        return ElementTree.fromstring(data), data.replace(b"\0", b"").decode("latin-1")
+    except (ElementTree.ParseError, ValueError, LookupError) as why:
+        raise Refused(f"not XML: {why}") from None
+
+
+def drawing(root: ElementTree.Element, text: str, library: ModuleType, step: int = 25, within: float = 0.1, apart: float = 0.5,
+            width: Optional[int] = None, centre: bool = False, skip: bool = False) -> Drawn:
     """The drawing of a document and its text. Lengths are mm, but for step and width: tenths."""
     if kind_of(root) != "svg":
         raise Refused("not an SVG file")
@@ -240,4 +254,4 @@ def drawing(root, text, library, step=25, within=0.1, apart=0.5, width=None, cen
     notes = reader.notes * (width is None) + [f"left out: {what}" for what in reader.faults]
     report = [thread_line(colour) for colour in blocks] + notes + [f"left out: {left_out}"] * bool(left_out) + [size]
     labels = [label for lines in blocks.values() for label, _ in lines]
-    return Drawing(text_of(blocks, title_of(root), step), report, notes, labels, reader.page)
+    return Drawn(text_of(blocks, title_of(root), step), report, notes, labels, reader.page)

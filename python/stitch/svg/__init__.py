@@ -1,0 +1,1 @@
+"""The reader of SVG files. It isn't proved, unlike the programs."""
